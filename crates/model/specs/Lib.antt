@@ -1,0 +1,5 @@
+pub mod Numbers
+pub mod Relations
+pub mod Grids
+pub mod Chains
+pub mod Refusals

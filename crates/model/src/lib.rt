@@ -1,0 +1,15 @@
+// Floors, calendars and refusals: what the engine and the examiner both stand on.
+mod calendar;
+mod chain;
+mod floor;
+mod grid;
+mod refusal;
+
+pub use calendar::Calendar;
+pub use chain::ChainCalendar;
+pub use chain::ChainCalendarCalendar;
+pub use chain::ChainCalendarFloor;
+pub use floor::Floor;
+pub use grid::Grid;
+pub use grid::GridFloor;
+pub use refusal::Refusal;
