@@ -1,5 +1,6 @@
 pub mod Numbers
 pub mod Relations
 pub mod Grids
+pub mod Links
 pub mod Chains
 pub mod Refusals

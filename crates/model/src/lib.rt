@@ -3,6 +3,7 @@ mod calendar;
 mod chain;
 mod floor;
 mod grid;
+mod links;
 mod refusal;
 
 pub use calendar::Calendar;
