@@ -2,9 +2,11 @@
 use mathlib.Core.Bool.{Bool, true, false, cond, _&&_, _||_}
 use mathlib.Core.Logic.{_⊎_, inl, inr, ⊎-elim}
 use mathlib.Core.Path.{_≡_, refl, sym, ap, ap₂, _∙_}
-use Prim.Native.Nat.{ℕ, zero, suc, _+_, _≤_, _<_}
+use Prim.Native.Nat.{ℕ, zero, suc, _+_, _≤_, _<_, zero-le}
 use native.Mathlib.Omega.{arith}
-use Rattle.std.proofs.shelf.Tests.{or-left, or-right, or-cases, or-from, cases-eq, cases-bool, both-ways}
+use lib.Dec.{leb}
+use Rattle.std.proofs.shelf.Tests.{or-left, or-right, or-cases, and-from, and-parts, le-leb, leb-true, cases-eq, cases-lt, cases-bool, both-ways}
+use Rattle.std.proofs.shelf.Ways.{tells}
 use Rattle.model.specs.Numbers.{any, within, tally, Least}
 
 -- a number below n that passes the test
@@ -27,3 +29,85 @@ any-none n test none k h = ⊎-elim (λ t. absurd (both-ways (any n test) none (
 pub any-same : (n : ℕ) (t u : ℕ → Bool) → ((k : ℕ) → k < n → t k ≡ u k) → any n t ≡ any n u
 any-same zero t u same = refl
 any-same (suc n) t u same = ap₂ (λ a b. a || b) (any-same n t u (λ k h. same k (omega arith))) (same n (omega arith))
+
+-- two tests that imply each other are the same
+pub same-tests : (a b : Bool) → (a ≡ true → b ≡ true) → (b ≡ true → a ≡ true) → a ≡ b
+same-tests true b f g = sym (f refl)
+same-tests false true f g = absurd (both-ways false refl (g refl))
+same-tests false false f g = refl
+
+-- a number from `from` on and below `end` that passes the test
+pub within-from : (from end : ℕ) (test : ℕ → Bool) (k : ℕ) → from ≤ k → k < end → test k ≡ true → within from end test ≡ true
+within-from from end test k l h t = any-from end (λ i. leb from i && test i) k h (and-from _ _ (le-leb from k l) t)
+
+pub within-gives : (from end : ℕ) (test : ℕ → Bool) → within from end test ≡ true → (k : ℕ) × (from ≤ k) × (k < end) × (test k ≡ true)
+within-gives from end test t =
+    let w = any-gives end (λ i. leb from i && test i) t in
+    let parts = and-parts (leb from (w .0)) (test (w .0)) (w .2) in
+    (w .0, leb-true from (w .0) (parts .0), w .1, parts .1)
+
+-- what is within one range is within another
+pub within-moves : (from end : ℕ) (t : ℕ → Bool) (from′ end′ : ℕ) (u : ℕ → Bool) → ((k : ℕ) → from ≤ k → k < end → t k ≡ true → (i : ℕ) × (from′ ≤ i) × (i < end′) × (u i ≡ true)) → within from end t ≡ true → within from′ end′ u ≡ true
+within-moves from end t from′ end′ u moves h =
+    let w = within-gives from end t h in
+    let v = moves (w .0) (w .1) (w .2) (w .3) in
+    within-from from′ end′ u (v .0) (v .1) (v .2) (v .3)
+
+-- an empty range holds nothing
+pub within-none : (from end : ℕ) (test : ℕ → Bool) → end ≤ from → within from end test ≡ false
+within-none from end test h =
+    ⊎-elim (λ t. let w = within-gives from end test t in absurd (omega arith)) (λ f. f) (cases-bool (within from end test))
+
+-- the first number of a range, and the others
+pub within-first : (from end : ℕ) (test : ℕ → Bool) → from < end → within from end test ≡ (test from || within (from + 1) end test)
+within-first from end test h =
+    same-tests _ _
+    (λ t. let w = within-gives from end test t in
+        ⊎-elim (λ e. or-left (test from) (within (from + 1) end test) (rw (← e) (w .3))) (λ ne. or-right (test from) (within (from + 1) end test) (within-from (from + 1) end test (w .0) (omega arith) (w .2) (w .3))) (cases-eq (w .0) from))
+    (λ t. ⊎-elim (λ s. within-from from end test from (omega arith) h s)
+        (λ s. let w = within-gives (from + 1) end test s in within-from from end test (w .0) (omega arith) (w .2) (w .3)) (or-cases _ _ t))
+
+-- tests that agree on a range
+pub within-same : (from end : ℕ) (t u : ℕ → Bool) → ((k : ℕ) → from ≤ k → k < end → t k ≡ u k) → within from end t ≡ within from end u
+within-same from end t u same =
+    same-tests _ _
+    (within-moves from end t from end u (λ k l h s. (k, l, h, sym (same k l h) ∙ s)))
+    (within-moves from end u from end t (λ k l h s. (k, l, h, same k l h ∙ s)))
+
+-- a count is at most the number it counts below, and grows with it
+pub tally-le : (n : ℕ) (test : ℕ → Bool) → tally n test ≤ n
+tally-le zero test = zero-le
+tally-le (suc n) test = let h = tally-le n test in grind (arith, tells)
+
+pub tally-grows : (j m : ℕ) (test : ℕ → Bool) → j ≤ m → tally j test ≤ tally m test
+tally-grows j zero test h = let e : j ≡ 0 = omega arith in rw e (omega arith)
+tally-grows j (suc m) test h =
+    ⊎-elim (λ (l : j < suc m). let k = tally-grows j m test (omega arith) in omega arith) (λ (l : suc m ≤ j). let e : j ≡ suc m = omega arith in rw e (omega arith)) (cases-lt j (suc m))
+
+-- a test that passes wherever the other does counts as many or more
+pub tally-weaker : (n : ℕ) (t u : ℕ → Bool) → ((k : ℕ) → k < n → t k ≡ true → u k ≡ true) → tally n t ≤ tally n u
+tally-weaker zero t u f = zero-le
+tally-weaker (suc n) t u f =
+    let rest = tally-weaker n t u (λ k h. f k (omega arith)) in
+    let here = f n (omega arith) in
+    grind arith
+
+-- a test that passes at every number below v, and at none from v on, counts v
+pub tally-least : (n v : ℕ) (test : ℕ → Bool) → v ≤ n → ((k : ℕ) → k < v → test k ≡ true) → v ≤ tally n test
+tally-least zero v test h f = h
+tally-least (suc n) v test h f =
+    ⊎-elim (λ (l : v < suc n). let k = tally-least n v test (omega arith) f in omega arith)
+    (λ (l : suc n ≤ v). let k = tally-least n n test (omega arith) (λ i q. f i (omega arith)) in let t = f n (omega arith) in grind arith)
+    (cases-lt v (suc n))
+
+pub tally-most : (n v : ℕ) (test : ℕ → Bool) → ((k : ℕ) → v ≤ k → k < n → test k ≡ false) → tally n test ≤ v
+tally-most zero v test f = zero-le
+tally-most (suc n) v test f =
+    ⊎-elim (λ (l : n < v). let k = tally-le (suc n) test in omega arith)
+    (λ (l : v ≤ n). let k = tally-most n v test (λ i q r. f i q (omega arith)) in let t = f n l (omega arith) in grind arith)
+    (cases-lt n v)
+
+-- two tests of which just one passes count together what their alternative counts
+pub tally-splits : (n : ℕ) (t u s : ℕ → Bool) → ((k : ℕ) → cond (s k) 1 0 ≡ cond (t k) 1 0 + cond (u k) 1 0) → tally n s ≡ tally n t + tally n u
+tally-splits zero t u s f = refl
+tally-splits (suc n) t u s f = let rest = tally-splits n t u s f in omega (arith, f n)

@@ -28,6 +28,10 @@ Listed-by-a-pair pairs =
 abbrev pub past : ℕ → List ℕ → Bool
 past n pairs = any (length pairs) (λ k. leb n (getD pairs k 0))
 
+-- every number of the list is below the count
+abbrev pub Below-count : ℕ → List ℕ → Type 0
+Below-count n pairs = (i : ℕ) → i < length pairs → getD pairs i 0 < n
+
 -- the list is odd, has more than 65,536 pairs, or a number that is not below the count
 abbrev pub loose : ℕ → List ℕ → Bool
 loose n pairs = eqb (length pairs % 2) 1 || (ltb 131072 (length pairs) || past n pairs)

@@ -1,4 +1,5 @@
 // Floors, calendars and refusals: what the engine and the examiner both stand on.
+mod adjacency;
 mod calendar;
 mod chain;
 mod floor;
