@@ -1,3 +1,5 @@
 pub mod Numbers
 pub mod Relations
 pub mod Grids
+pub mod Pairs
+pub mod Masks

@@ -3,4 +3,5 @@ pub mod Relations
 pub mod Grids
 pub mod Links
 pub mod Chains
+pub mod Masks
 pub mod Refusals
