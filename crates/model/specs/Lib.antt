@@ -5,4 +5,5 @@ pub mod Links
 pub mod Rows
 pub mod Placing
 pub mod Chains
+pub mod Masks
 pub mod Refusals

@@ -4,6 +4,7 @@ mod calendar;
 mod chain;
 mod floor;
 mod grid;
+mod link_calendar;
 mod links;
 mod refusal;
 
@@ -14,4 +15,7 @@ pub use chain::ChainCalendarFloor;
 pub use floor::Floor;
 pub use grid::Grid;
 pub use grid::GridFloor;
+pub use link_calendar::LinkCalendar;
+pub use link_calendar::LinkCalendarCalendar;
+pub use link_calendar::LinkCalendarFloor;
 pub use refusal::Refusal;
