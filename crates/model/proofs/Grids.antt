@@ -19,9 +19,10 @@ cols-below rows cols h = omega (arith, mul-le 1 cols rows cols h (omega arith), 
 
 -- a place tells its row and its column
 same-place : (cols r c s d : ℕ) → c < cols → d < cols → r * cols + c ≡ s * cols + d → (r ≡ s) × (c ≡ d)
-same-place cols r c s d hc hd e =
-    (sym (div-mul-add r cols c hc) ∙ ap (λ x. x / cols) e ∙ div-mul-add s cols d hd,
-     sym (mod-mul-add r cols c hc) ∙ ap (λ x. x % cols) e ∙ mod-mul-add s cols d hd)
+same-place cols r c s d hc hd e = (
+  sym (div-mul-add r cols c hc) ∙ ap (λ x. x / cols) e ∙ div-mul-add s cols d hd,
+  sym (mod-mul-add r cols c hc) ∙ ap (λ x. x % cols) e ∙ mod-mul-add s cols d hd,
+)
 
 -- the two tests of a neighbour, by rows and columns
 south-is : (cols r c s d : ℕ) → c < cols → d < cols → south cols (r * cols + c) (s * cols + d) ≡ (eqb (r + 1) s && eqb c d)
@@ -29,15 +30,15 @@ south-is cols r c s d hc hd =
     let shifted : r * cols + c + cols ≡ (r + 1) * cols + c = omega (arith, add-mul r 1 cols, one-mul cols) in
     same-from-decides _ _ (decides-eqb (r * cols + c + cols) (s * cols + d))
     (decides-like _ (λ h. shifted ∙ ap₂ (λ a b. a * cols + b) (h .0) (h .1)) (λ e. same-place cols (r + 1) c s d hc hd (sym shifted ∙ e))
-        (decides-and _ _ (decides-eqb (r + 1) s) (decides-eqb c d)))
+    (decides-and _ _ (decides-eqb (r + 1) s) (decides-eqb c d)))
 
 east-is : (cols r c s d : ℕ) → c < cols → d < cols → east cols (r * cols + c) (s * cols + d) ≡ (eqb r s && eqb (c + 1) d)
 east-is cols r c s d hc hd =
     rw (div-mul-add r cols c hc, div-mul-add s cols d hd)
     (same-from-decides _ _
-        (decides-like _ (λ h. (h .1, omega (arith, ap (λ x. x * cols) (h .1), h .0))) (λ h. (omega (arith, ap (λ x. x * cols) (h .0), h .1), h .0))
-            (decides-and _ _ (decides-eqb (r * cols + c + 1) (s * cols + d)) (decides-eqb r s)))
-        (decides-and _ _ (decides-eqb r s) (decides-eqb (c + 1) d)))
+    (decides-like _ (λ h. (h .1, omega (arith, ap (λ x. x * cols) (h .1), h .0))) (λ h. (omega (arith, ap (λ x. x * cols) (h .0), h .1), h .0))
+    (decides-and _ _ (decides-eqb (r * cols + c + 1) (s * cols + d)) (decides-eqb r s)))
+    (decides-and _ _ (decides-eqb r s) (decides-eqb (c + 1) d)))
 
 pub reads : (rows cols : ℕ) → Reads-by-row-and-column rows cols
 reads rows cols r c s d (hr, hc) (hs, hd) =

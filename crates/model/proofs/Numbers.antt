@@ -63,9 +63,9 @@ pub within-first : (from end : ℕ) (test : ℕ → Bool) → from < end → wit
 within-first from end test h =
     same-tests _ _
     (λ t. let w = within-gives from end test t in
-        ⊎-elim (λ e. or-left (test from) (within (from + 1) end test) (rw (← e) (w .3))) (λ ne. or-right (test from) (within (from + 1) end test) (within-from (from + 1) end test (w .0) (omega arith) (w .2) (w .3))) (cases-eq (w .0) from))
+    ⊎-elim (λ e. or-left (test from) (within (from + 1) end test) (rw (← e) (w .3))) (λ ne. or-right (test from) (within (from + 1) end test) (within-from (from + 1) end test (w .0) (omega arith) (w .2) (w .3))) (cases-eq (w .0) from))
     (λ t. ⊎-elim (λ s. within-from from end test from (omega arith) h s)
-        (λ s. let w = within-gives (from + 1) end test s in within-from from end test (w .0) (omega arith) (w .2) (w .3)) (or-cases _ _ t))
+    (λ s. let w = within-gives (from + 1) end test s in within-from from end test (w .0) (omega arith) (w .2) (w .3)) (or-cases _ _ t))
 
 -- tests that agree on a range
 pub within-same : (from end : ℕ) (t u : ℕ → Bool) → ((k : ℕ) → from ≤ k → k < end → t k ≡ u k) → within from end t ≡ within from end u

@@ -2,12 +2,12 @@
 use mathlib.Core.Bool.{Bool, false, _&&_}
 use mathlib.Core.List.{List}
 use mathlib.Core.Path.{_≡_}
-use Prim.Native.Nat.{ℕ, _+_, _*_, _/_, _<_}
+use Prim.Native.Nat.{ℕ, _+_, _*_, _/_, _≤_, _<_}
 use native.Mathlib.Omega.{arith}
 use lib.Dec.{ltb, leb, eqb}
 use lib.ListN.{length, getD}
-use Rattle.std.proofs.shelf.Tests.{or-parts, and-parts, and-from, eqb-true, eq-eqb, leb-false}
-use Rattle.model.specs.Links.{pair-from, pair-to, listed, Listed-by-a-pair, past, loose}
+use Rattle.std.proofs.shelf.Tests.{or-parts, and-parts, and-from, eqb-true, eq-eqb, leb-false, ltb-false}
+use Rattle.model.specs.Links.{pair-from, pair-to, listed, Listed-by-a-pair, Below-count, past, loose}
 use Rattle.model.specs.Numbers.{any}
 use Rattle.model.specs.Relations.{Inside}
 use Rattle.model.proofs.Numbers.{any-from, any-gives, any-none}
@@ -20,11 +20,14 @@ listed-by-a-pair pairs p q =
       λ w. any-from (length pairs / 2) here (w .0) (w .1) (and-from _ _ (eq-eqb _ _ (w .2)) (eq-eqb _ _ (w .3))),
     )
 
--- where the list is not loose, each of its numbers is below the count, and only points are linked
-pub all-below : (n : ℕ) (pairs : List ℕ) → loose n pairs ≡ false → (k : ℕ) → k < length pairs → getD pairs k 0 < n
+-- where the list is not loose, each of its numbers is below the count, it has no more than 65,536 pairs, and only points are linked
+pub all-below : (n : ℕ) (pairs : List ℕ) → loose n pairs ≡ false → Below-count n pairs
 all-below n pairs tight k h =
     let none = or-parts (ltb 131072 (length pairs)) (past n pairs) (or-parts _ _ tight .1) .1 in
     leb-false n _ (any-none (length pairs) (λ k. leb n (getD pairs k 0)) none k h)
+
+pub few-pairs : (n : ℕ) (pairs : List ℕ) → loose n pairs ≡ false → length pairs ≤ 131072
+few-pairs n pairs tight = ltb-false 131072 (length pairs) (or-parts (ltb 131072 (length pairs)) (past n pairs) (or-parts _ _ tight .1) .0)
 
 pub listed-inside : (n : ℕ) (pairs : List ℕ) → loose n pairs ≡ false → Inside n (listed pairs)
 listed-inside n pairs tight p q t =

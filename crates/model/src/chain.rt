@@ -10,6 +10,7 @@ use crate::floor::Floor;
 use crate::refusal::Refusal;
 
 // Each day leads to the next, the last to itself.
+#[derive(Drop)]
 pub struct ChainCalendar {
     days: usize,
     ghost some: { 1 ≤ days },

@@ -10,6 +10,7 @@ use crate::floor::Floor;
 use crate::refusal::Refusal;
 
 // Each point, at row × columns + column, leads to its neighbours north, south, east and west.
+#[derive(Drop)]
 pub struct Grid {
     rows: usize,
     cols: usize,

@@ -5,6 +5,7 @@ mod chain;
 mod floor;
 mod grid;
 mod link_calendar;
+mod link_floor;
 mod links;
 mod refusal;
 
@@ -18,4 +19,6 @@ pub use grid::GridFloor;
 pub use link_calendar::LinkCalendar;
 pub use link_calendar::LinkCalendarCalendar;
 pub use link_calendar::LinkCalendarFloor;
+pub use link_floor::LinkFloor;
+pub use link_floor::LinkFloorFloor;
 pub use refusal::Refusal;
