@@ -4,7 +4,6 @@ ghost use Prim.Native.Nat.{ℕ, _*_, _≤_};
 ghost use Rattle.std.specs.Results.{errPart};
 ghost use Rattle.std.specs.Vec.{made};
 ghost use Rattle.model.specs.Grids.{beside, Reads-by-row-and-column};
-ghost use Rattle.model.specs.Numbers.{Least};
 ghost use Rattle.model.specs.Refusals.{grid-refusal};
 use crate::floor::Floor;
 use crate::refusal::Refusal;
@@ -35,12 +34,20 @@ impl Grid {
         }
         Ok(Grid { rows, cols })
     }
+}
 
-    // The least neighbour of p at or above q: north, west, east and south come in ascending order.
-    fn neighbour(&self, p: usize, q: usize) -> Option<usize>
-        ensures { λ r. ⌜ Least (beside (now (self .entry) .rows) (now (self .entry) .cols) p) q (now (self .entry) .rows * now (self .entry) .cols) r ⌝ }
-    {
-        let points = self.rows * self.cols;
+pub impl Floor for Grid as GridFloor {
+    ghost points = { λ g. g .rows * g .cols };
+
+    ghost leads = { λ g. beside (g .rows) (g .cols) };
+
+    fn count(&self) -> usize {
+        self.rows * self.cols
+    }
+
+    // North, west, east and south come in ascending order.
+    fn onward(&self, p: usize, q: usize) -> Option<usize> {
+        let points = self.count();
         if p >= points {
             return None;
         }
@@ -58,22 +65,9 @@ impl Grid {
         }
         None
     }
-}
 
-pub impl Floor for Grid as GridFloor {
-    ghost points = { λ g. g .rows * g .cols };
-
-    ghost leads = { λ g. beside (g .rows) (g .cols) };
-
-    fn count(&self) -> usize {
-        self.rows * self.cols
-    }
-
-    fn onward(&self, p: usize, q: usize) -> Option<usize> {
-        self.neighbour(p, q)
-    }
-
+    // Neighbours lead to one another.
     fn inward(&self, p: usize, q: usize) -> Option<usize> {
-        self.neighbour(p, q)
+        self.onward(p, q)
     }
 }

@@ -1,11 +1,13 @@
 // The link floor: points and links given by a list of pairs.
+ghost use mathlib.Core.Bool.{false};
 ghost use mathlib.Core.List.{[]};
 ghost use mathlib.Core.Path.{_≡_};
 ghost use Prim.Native.Nat.{ℕ, _≤_};
 ghost use lib.ListN.{getD};
+ghost use Rattle.std.specs.Options.{Cases};
 ghost use Rattle.std.specs.Results.{errPart};
 ghost use Rattle.std.specs.Vec.{made, refused};
-ghost use Rattle.model.specs.Links.{listed, Listed-by-a-pair};
+ghost use Rattle.model.specs.Links.{listed, loose, Listed-by-a-pair};
 ghost use Rattle.model.specs.Refusals.{link-floor-refusal};
 ghost use Rattle.model.specs.Rows.{row-leads, Rows-within, Rows-points, Rows-rise};
 use crate::adjacency::next_in_row;
@@ -35,16 +37,39 @@ pub struct LinkFloor {
     ghost back: { (p q : ℕ) → row-leads count instarts incells p q ≡ row-leads count outstarts outcells q p },
 }
 
-// The starts of empty rows.
+// Rows without points.
+fn empty_rows() -> ([u32; 4097], [u16; 65536])
+    ensures within { λ r. ⌜ Rows-within 1 (r .0) (r .1) ⌝ }
+    ensures points { λ r. ⌜ Rows-points 1 (r .0) (r .1) ⌝ }
+    ensures rise { λ r. ⌜ Rows-rise 1 (r .0) (r .1) ⌝ }
+    ensures leads { λ r. ⌜ ((p q : ℕ) → row-leads 1 (r .0) (r .1) p q ≡ false) ⌝ }
+{
+    (no_starts(), no_cells())
+}
+
 fn no_starts() -> [u32; 4097]
     ensures { λ r. ⌜ ((p : ℕ) → getD r p 0 ≡ 0) ⌝ }
 {
     [0; 4097]
 }
 
-// Cells that no row has yet.
 fn no_cells() -> [u16; 65536] {
     [0; 65536]
+}
+
+// Why no floor of so many points has these links.
+fn refusal_of(count: usize, pairs: &[u32]) -> Option<Refusal>
+    ensures refusal { λ r. ⌜ r ≡ link-floor-refusal count (now (pairs .entry)) ⌝ }
+    ensures lawful { λ r. ⌜ Cases r ((1 ≤ count) × (count ≤ 4096) × (loose count (now (pairs .entry)) ≡ false)) (λ _. Unit {0}) ⌝ }
+    ensures reads { λ _. ⌜ Listed-by-a-pair (now (pairs .entry)) ⌝ }
+{
+    if count == 0 || count > 4096 {
+        return Some(Refusal::FloorSize);
+    }
+    if is_loose(count, pairs) {
+        return Some(Refusal::LinkList);
+    }
+    None
 }
 
 impl LinkFloor {
@@ -53,12 +78,14 @@ impl LinkFloor {
         ensures count { λ r. ⌜ r .count ≡ 1 ⌝ }
         ensures leads { λ r. ⌜ ((p q : ℕ) → row-leads (r .count) (r .outstarts) (r .outcells) p q ≡ listed [] p q) ⌝ }
     {
+        let (outstarts, outcells) = empty_rows();
+        let (instarts, incells) = empty_rows();
         LinkFloor {
             count: 1,
-            outstarts: no_starts(),
-            outcells: no_cells(),
-            instarts: no_starts(),
-            incells: no_cells(),
+            outstarts,
+            outcells,
+            instarts,
+            incells,
         }
     }
 
@@ -70,12 +97,19 @@ impl LinkFloor {
         ensures kept { λ r. ⌜ refused r (λ _. now (self .exit) ≡ now (self .entry)) ⌝ }
         ensures reads { λ _. ⌜ Listed-by-a-pair (now (pairs .entry)) ⌝ }
     {
-        if count == 0 || count > 4096 {
-            return Err(Refusal::FloorSize);
+        if let Some(why) = refusal_of(count, pairs) {
+            return Err(why);
         }
-        if is_loose(count, pairs) {
-            return Err(Refusal::LinkList);
-        }
+        self.set(count, pairs);
+        Ok(())
+    }
+
+    // Takes the pairs row by row, turns the rows over for those that lead to each point, and turns them back in order.
+    fn set(&mut self, count: usize, pairs: &[u32])
+        requires { ⌜ (1 ≤ count) × (count ≤ 4096) × (loose count (now pairs) ≡ false) ⌝ }
+        ensures count { λ _. ⌜ now (self .exit) .count ≡ count ⌝ }
+        ensures leads { λ _. ⌜ ((p q : ℕ) → row-leads (now (self .exit) .count) (now (self .exit) .outstarts) (now (self .exit) .outcells) p q ≡ listed (now (pairs .entry)) p q) ⌝ }
+    {
         take_pairs(&mut self.outstarts, &mut self.outcells, count, pairs);
         turn(
             &mut self.instarts,
@@ -92,7 +126,6 @@ impl LinkFloor {
             &self.incells,
         );
         self.count = count;
-        Ok(())
     }
 }
 
