@@ -5,3 +5,5 @@ pub mod Pairs
 pub mod Placing
 pub mod Rows
 pub mod Masks
+pub mod Levels
+pub mod Ranks

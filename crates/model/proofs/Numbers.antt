@@ -5,9 +5,9 @@ use mathlib.Core.Path.{_≡_, refl, sym, ap, ap₂, _∙_}
 use Prim.Native.Nat.{ℕ, zero, suc, _+_, _≤_, _<_, zero-le}
 use native.Mathlib.Omega.{arith}
 use lib.Dec.{leb}
-use Rattle.std.proofs.shelf.Tests.{or-left, or-right, or-cases, and-from, and-parts, le-leb, leb-true, cases-eq, cases-lt, cases-bool, both-ways}
+use Rattle.std.proofs.shelf.Tests.{or-left, or-right, or-cases, and-from, and-parts, and-cases, le-leb, leb-true, cases-eq, cases-lt, cases-bool, both-ways}
 use Rattle.std.proofs.shelf.Ways.{tells}
-use Rattle.model.specs.Numbers.{any, within, tally, Least}
+use Rattle.model.specs.Numbers.{any, every, within, tally}
 
 -- a number below n that passes the test
 pub any-from : (n : ℕ) (test : ℕ → Bool) (k : ℕ) → k < n → test k ≡ true → any n test ≡ true
@@ -111,3 +111,24 @@ tally-most (suc n) v test f =
 pub tally-splits : (n : ℕ) (t u s : ℕ → Bool) → ((k : ℕ) → cond (s k) 1 0 ≡ cond (t k) 1 0 + cond (u k) 1 0) → tally n s ≡ tally n t + tally n u
 tally-splits zero t u s f = refl
 tally-splits (suc n) t u s f = let rest = tally-splits n t u s f in omega (arith, f n)
+
+-- every number below n
+pub every-from : (n : ℕ) (test : ℕ → Bool) → ((k : ℕ) → k < n → test k ≡ true) → every n test ≡ true
+every-from zero test all = refl
+every-from (suc n) test all = and-from (every n test) (test n) (every-from n test (λ k h. all k (omega arith))) (all n (omega arith))
+
+pub every-gives : (n : ℕ) (test : ℕ → Bool) → every n test ≡ true → (k : ℕ) → k < n → test k ≡ true
+every-gives zero test t k h = absurd (omega arith)
+every-gives (suc n) test t k h =
+    let parts = and-parts (every n test) (test n) t in
+    ⊎-elim (λ (e : k ≡ n). rw e (parts .1)) (λ (ne : k ≡ n → ⊥). every-gives n test (parts .0) k (omega arith)) (cases-eq k n)
+
+pub every-same : (n : ℕ) (t u : ℕ → Bool) → ((k : ℕ) → k < n → t k ≡ u k) → every n t ≡ every n u
+every-same zero t u same = refl
+every-same (suc n) t u same = ap₂ (λ a b. a && b) (every-same n t u (λ k h. same k (omega arith))) (same n (omega arith))
+
+-- where not every number passes, one does not
+pub every-fails : (n : ℕ) (test : ℕ → Bool) → every n test ≡ false → (k : ℕ) × (k < n) × (test k ≡ false)
+every-fails zero test f = absurd (both-ways true f refl)
+every-fails (suc n) test f =
+    ⊎-elim (λ (g : every n test ≡ false). let w = every-fails n test g in (w .0, omega (arith, w .1), w .2)) (λ g. (n, omega arith, g)) (and-cases (every n test) (test n) f)

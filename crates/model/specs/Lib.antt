@@ -7,3 +7,11 @@ pub mod Placing
 pub mod Chains
 pub mod Masks
 pub mod Refusals
+pub mod Kinds
+pub mod Logic
+pub mod Ways
+pub mod Lines
+pub mod Table
+pub mod Entries
+pub mod Books
+pub mod Theorems
