@@ -7,3 +7,8 @@ pub mod Rows
 pub mod Masks
 pub mod Levels
 pub mod Ranks
+pub mod Words
+pub mod Paths
+pub mod Runs
+pub mod Futures
+pub mod Satisfied
