@@ -13,8 +13,8 @@ use Rattle.model.specs.Logic.{Formula, Model, Lawful-model, Closure, Boundary,
 use Rattle.model.specs.Numbers.{any}
 use Rattle.model.specs.Relations.{Inside, Unending}
 use Rattle.model.specs.Table.{word, yes?, near-word, surrounded-word, until-word, awaited-word, Plane, kind-plane}
-use Rattle.model.specs.Theorems.{Every-future-law}
 use Rattle.model.specs.Ways.{Region, Beginning, no-days}
+use Rattle.model.proofs.Futures.{every-future-law}
 use Rattle.model.proofs.Numbers.{any-from, any-gives}
 use Rattle.model.proofs.Paths.{surrounded-law, until-law}
 use Rattle.model.proofs.Runs.{run-from, run-before, run-leads, beginning-run, run-begins}
@@ -84,3 +84,90 @@ module _ (n : ℕ) (leads : ℕ → ℕ → Bool) (inside : Inside n leads) (lef
         bordered A r z (inl t) not-in = absurd (not-in t)
         bordered A r z (inr w) not-in =
             agree′ z (inside (w .0) z (w .2) .1) .0 (r .border (w .0) z (w .1) (w .2) (⊎-elim (λ (t : A z ≡ true). absurd (not-in t)) (λ f. f) (cases-bool (A z))))
+
+-- next, until and awaited, over tests that agree with facts on every day
+module _ (m : ℕ) (after : ℕ → ℕ → Bool) (inside : Inside m after) (unending : Unending m after) (left : ℕ → Bool) (P : ℕ → Type 0) (agree : (e : ℕ) → e < m → Agree (left e) (P e)) where
+  -- the days of a run are days
+  day-below : (d : ℕ) (r : Run after d) (i : ℕ) → r .day i < m
+  day-below d r i = inside (r .day i) (r .day (suc i)) (r .goes i) .0
+
+  next-agrees : (d : ℕ) → Agree (any m (λ e. after d e && left e)) ((r : Run after d) × P (r .day 1))
+  next-agrees d = (
+    λ t. let w = any-gives m (λ e. after d e && left e) t in
+        let p = and-parts (after d (w .0)) (left (w .0)) (w .2) in
+        (run-before after d (w .0) (p .0) (run-from m after inside unending (w .0) (w .1)), agree (w .0) (w .1) .0 (p .1)),
+    λ w. let l = day-below d (w .0) 1 in
+        any-from m (λ e. after d e && left e) (w .0 .day 1) l (and-from _ _ (run-leads after d (w .0)) (agree (w .0 .day 1) l .1 (w .1))),
+  )
+
+  until-agrees : (right : ℕ → Bool) (Q : ℕ → Type 0) → ((e : ℕ) → e < m → Agree (right e) (Q e)) → (d : ℕ) → d < m → Agree (yes? (until-word m after left right d)) ((r : Run after d) × Until-along P Q (r .day))
+  until-agrees right Q agree′ d h =
+      let law = until-law m after inside left right d h .yes-by-a-beginning in (
+        λ e. let b = law .0 e in
+            let w = beginning-run m after inside unending left right d (b .0) h (b .1) in
+            let u = w .1 in
+            (w .0, (u .0, agree′ _ (day-below d (w .0) (u .0)) .0 (u .1), λ k l. agree _ (day-below d (w .0) k) .0 (u .2 k l))),
+        λ w. let u = w .1 in
+            law .1 (run-begins after left right (u .0) d (w .0) (agree′ _ (day-below d (w .0) (u .0)) .1 (u .1)) (λ k l. agree _ (day-below d (w .0) k) .1 (u .2 k l))),
+      )
+
+  awaited-agrees : (d : ℕ) → d < m → Agree (yes? (awaited-word m after left d)) ((r : Run after d) → Until-along (λ e. Unit {0}) P (r .day))
+  awaited-agrees d h =
+      let law = every-future-law m after inside unending left d h in (
+        λ e r. let w = law .yes-by-a-bound .0 e .1 r in (w .0, agree _ (day-below d r (w .0)) .0 (w .2), λ k l. tt),
+        λ all. ⊎-elim (λ t. t)
+            (λ (f : yes? (awaited-word m after left d) ≡ false).
+                let c = law .circles f in
+                let r : Run after d = record { day = no-days m after (λ e. yes? (awaited-word m after left e)) d; starts = refl; goes = c .goes } in
+                let w = all r in
+                absurd (both-ways (left (r .day (w .0))) (c .never (w .0)) (agree _ (day-below d r (w .0)) .1 (w .1))))
+            (cases-bool (yes? (awaited-word m after left d))),
+      )
+
+-- the words of a line agree with a formula at every day and point
+abbrev pub Agrees : Model → Plane → Formula → Type 0
+Agrees M plane f = (d x : ℕ) → d < M .days → x < M .points → Agree (yes? (plane d x)) (Sat M f x d)
+
+-- the operands that a kind reads as lines
+abbrev pub left-line : Kind → Bool
+left-line Truth = false
+left-line Reading = false
+left-line Not = true
+left-line Or = true
+left-line Near = true
+left-line Surrounded = true
+left-line Next = true
+left-line Until = true
+left-line Awaited = true
+
+abbrev pub right-line : Kind → Bool
+right-line Truth = false
+right-line Reading = false
+right-line Not = false
+right-line Or = true
+right-line Near = false
+right-line Surrounded = true
+right-line Next = false
+right-line Until = true
+right-line Awaited = false
+
+-- the words of a kind agree with its formula where those of its operands do
+pub kind-agrees : (M : Model) → Lawful-model M → (kind : Kind) (lower : ℕ → Plane) (f : ℕ → Formula) (l r : ℕ)
+    → (left-line kind ≡ true → Agrees M (lower l) (f l)) → (right-line kind ≡ true → Agrees M (lower r) (f r))
+    → Agrees M (kind-plane M kind lower l r) (kind-formula kind f l r)
+kind-agrees M lawful Truth lower f l r al ar d x hd hx = (λ _. tt, λ _. refl)
+kind-agrees M lawful Reading lower f l r al ar d x hd hx = by-word _ 0 _ (λ e. e, λ e. e)
+kind-agrees M lawful Not lower f l r al ar d x hd hx = by-word _ 0 _ (agree-not _ _ (al refl d x hd hx))
+kind-agrees M lawful Or lower f l r al ar d x hd hx = by-word _ 0 _ (agree-or _ _ _ _ (al refl d x hd hx) (ar refl d x hd hx))
+kind-agrees M lawful Near lower f l r al ar d x hd hx =
+    near-agrees (M .points) (M .leads) (lawful .floor) (λ y. yes? (lower l d y)) (λ y. Sat M (f l) y d) (λ y h. al refl d y hd h) x hx
+kind-agrees M lawful Surrounded lower f l r al ar d x hd hx =
+    surrounded-agrees (M .points) (M .leads) (lawful .floor) (λ y. yes? (lower l d y)) (λ y. Sat M (f l) y d) (λ y h. al refl d y hd h)
+    (λ y. yes? (lower r d y)) (λ y. Sat M (f r) y d) (λ y h. ar refl d y hd h) x hx
+kind-agrees M lawful Next lower f l r al ar d x hd hx =
+    by-word _ 0 _ (next-agrees (M .days) (M .after) (lawful .calendar) (lawful .unending) (λ e. yes? (lower l e x)) (λ e. Sat M (f l) x e) (λ e h. al refl e x h hx) d)
+kind-agrees M lawful Until lower f l r al ar d x hd hx =
+    until-agrees (M .days) (M .after) (lawful .calendar) (lawful .unending) (λ e. yes? (lower l e x)) (λ e. Sat M (f l) x e) (λ e h. al refl e x h hx)
+    (λ e. yes? (lower r e x)) (λ e. Sat M (f r) x e) (λ e h. ar refl e x h hx) d hd
+kind-agrees M lawful Awaited lower f l r al ar d x hd hx =
+    awaited-agrees (M .days) (M .after) (lawful .calendar) (lawful .unending) (λ e. yes? (lower l e x)) (λ e. Sat M (f l) x e) (λ e h. al refl e x h hx) d hd
