@@ -1,8 +1,9 @@
 -- The number of an every-future entry is the least that is enough on every run, and where the answer is no the days answered no circle.
 use mathlib.Core.Bool.{Bool, true, false, cond, not, _&&_, _||_}
 use mathlib.Core.Logic.{⊎-elim}
-use mathlib.Core.Path.{_≡_, refl}
-use Prim.Native.Nat.{ℕ, zero, suc, _≤_, _<_, zero-le}
+use mathlib.Core.Path.{_≡_, refl, ap}
+use Prim.Native.Nat.{ℕ, zero, suc, _+_, _≤_, _<_, zero-le}
+use native.Mathlib.Nat.{add-zero, add-suc}
 use native.Mathlib.Omega.{arith}
 use lib.Dec.{eqb}
 use Rattle.std.proofs.shelf.Tests.{cases-bool, both-ways, or-parts, and-parts, and-cases, not-true, not-false, eqb-true, eqb-false}
@@ -107,13 +108,19 @@ module _ (m : ℕ) (after : ℕ → ℕ → Bool) (inside : Inside m after) (une
     no-days-unsure d u zero = u
     no-days-unsure d u (suc i) = no-next (no-days m after answer d i) (no-days-unsure d u i) .1
 
+    -- from two equal days on the days are equal
+    round : (d i j : ℕ) → no-days m after answer d i ≡ no-days m after answer d j → (k : ℕ) → no-days m after answer d (i + k) ≡ no-days m after answer d (j + k)
+    round d i j e zero = rw (add-zero i, add-zero j) e
+    round d i j e (suc k) = rw (add-suc i k, add-suc j k) (ap (no-day m after answer) (round d i j e k))
+
     pub no-circles : (d : ℕ) → Unsure d → Circling m after awaited answer d
     no-circles d u =
         let unsure = no-days-unsure d u in
+        let w = repeats m (no-days m after answer d) (λ i l. unsure i .0) in
         record {
           goes = λ i. no-next (no-days m after answer d i) (unsure i) .0;
           never = λ i. no-sure 0 (no-days m after answer d i) (unsure i);
-          repeats = repeats m (no-days m after answer d) (λ i l. unsure i .0);
+          repeats = (w .0, w .1, w .2, w .3, w .4, round d (w .0) (w .1) (w .4));
         }
 
 -- the answer is yes exactly when some number of steps is enough on every run, its number is the least such, and where it is no the days answered no circle

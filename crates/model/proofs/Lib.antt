@@ -11,4 +11,7 @@ pub mod Words
 pub mod Paths
 pub mod Runs
 pub mod Futures
+pub mod Unfolding
 pub mod Satisfied
+pub mod Bounded
+pub mod SmallHeaps

@@ -5,19 +5,22 @@ use mathlib.Core.Logic.{_⊎_, inl, inr, ⊎-elim, _↔_}
 use mathlib.Core.Path.{_≡_, refl, sym, ap, subst, _∙_}
 use Prim.Native.Nat.{ℕ, zero, suc, _≤_, _<_}
 use native.Mathlib.Omega.{arith}
-use Rattle.std.proofs.shelf.Tests.{cases-bool, both-ways, and-parts, and-from, or-cases, or-left, or-right, not-true, not-from-false}
+use Rattle.std.proofs.shelf.Tests.{cases-bool, cases-eq, both-ways, and-parts, and-from, or-cases, or-left, or-right, not-true, not-from-false}
+use Rattle.model.specs.declared.line.Line.{Line}
 use Rattle.model.specs.declared.kind.Kind.{Kind}
 use Rattle.model.specs.declared.kind.Kind.the-variants.{Truth, Reading, Not, Or, Near, Surrounded, Next, Until, Awaited}
-use Rattle.model.specs.Lines.{kind-formula}
+use Rattle.model.specs.Lines.{Lawful-lines, line-at, kind-formula, formula-of}
 use Rattle.model.specs.Logic.{Formula, Model, Lawful-model, Closure, Boundary, Run, Until-along, Sat}
 use Rattle.model.specs.Numbers.{any}
 use Rattle.model.specs.Relations.{Inside, Unending}
-use Rattle.model.specs.Table.{word, yes?, near-word, surrounded-word, until-word, awaited-word, Plane, kind-plane}
+use Rattle.model.specs.Table.{word, yes?, near-word, surrounded-word, until-word, awaited-word, Plane, kind-plane, table}
+use Rattle.model.specs.Theorems.{Satisfaction}
 use Rattle.model.specs.Ways.{Region, Beginning, no-days}
 use Rattle.model.proofs.Futures.{every-future-law}
 use Rattle.model.proofs.Numbers.{any-from, any-gives}
 use Rattle.model.proofs.Paths.{surrounded-law, until-law}
 use Rattle.model.proofs.Runs.{run-from, run-before, run-leads, beginning-run, run-begins}
+use Rattle.model.proofs.Unfolding.{Below, placed, table-at, formula-at}
 use Rattle.model.proofs.Words.{word-yes}
 
 -- a test and a fact that hold together
@@ -128,46 +131,40 @@ module _ (m : ℕ) (after : ℕ → ℕ → Bool) (inside : Inside m after) (une
 abbrev pub Agrees : Model → Plane → Formula → Type 0
 Agrees M plane f = (d x : ℕ) → d < M .days → x < M .points → Agree (yes? (plane d x)) (Sat M f x d)
 
--- the operands that a kind reads as lines
-abbrev pub left-line : Kind → Bool
-left-line Truth = false
-left-line Reading = false
-left-line Not = true
-left-line Or = true
-left-line Near = true
-left-line Surrounded = true
-left-line Next = true
-left-line Until = true
-left-line Awaited = true
+-- the words of a kind agree with its formula where those of the lines below do
+pub kind-agrees : (M : Model) → Lawful-model M → (kind : Kind) (lower : ℕ → Plane) (f : ℕ → Formula) (i l r : ℕ)
+    → ((j : ℕ) → j < i → Agrees M (lower j) (f j)) → Below kind i l r → Agrees M (kind-plane M kind lower l r) (kind-formula kind f l r)
+kind-agrees M lawful Truth lower f i l r all b d x hd hx = (λ _. tt, λ _. refl)
+kind-agrees M lawful Reading lower f i l r all b d x hd hx = by-word _ 0 _ (λ e. e, λ e. e)
+kind-agrees M lawful Not lower f i l r all b d x hd hx = by-word _ 0 _ (agree-not _ _ (all l b d x hd hx))
+kind-agrees M lawful Or lower f i l r all b d x hd hx = by-word _ 0 _ (agree-or _ _ _ _ (all l (b .0) d x hd hx) (all r (b .1) d x hd hx))
+kind-agrees M lawful Near lower f i l r all b d x hd hx =
+    near-agrees (M .points) (M .leads) (lawful .floor) (λ y. yes? (lower l d y)) (λ y. Sat M (f l) y d) (λ y h. all l b d y hd h) x hx
+kind-agrees M lawful Surrounded lower f i l r all b d x hd hx =
+    surrounded-agrees (M .points) (M .leads) (lawful .floor) (λ y. yes? (lower l d y)) (λ y. Sat M (f l) y d) (λ y h. all l (b .0) d y hd h)
+    (λ y. yes? (lower r d y)) (λ y. Sat M (f r) y d) (λ y h. all r (b .1) d y hd h) x hx
+kind-agrees M lawful Next lower f i l r all b d x hd hx =
+    by-word _ 0 _ (next-agrees (M .days) (M .after) (lawful .calendar) (lawful .unending) (λ e. yes? (lower l e x)) (λ e. Sat M (f l) x e) (λ e h. all l b e x h hx) d)
+kind-agrees M lawful Until lower f i l r all b d x hd hx =
+    until-agrees (M .days) (M .after) (lawful .calendar) (lawful .unending) (λ e. yes? (lower l e x)) (λ e. Sat M (f l) x e) (λ e h. all l (b .0) e x h hx)
+    (λ e. yes? (lower r e x)) (λ e. Sat M (f r) x e) (λ e h. all r (b .1) e x h hx) d hd
+kind-agrees M lawful Awaited lower f i l r all b d x hd hx =
+    awaited-agrees (M .days) (M .after) (lawful .calendar) (lawful .unending) (λ e. yes? (lower l e x)) (λ e. Sat M (f l) x e) (λ e h. all l b e x h hx) d hd
 
-abbrev pub right-line : Kind → Bool
-right-line Truth = false
-right-line Reading = false
-right-line Not = false
-right-line Or = true
-right-line Near = false
-right-line Surrounded = true
-right-line Next = false
-right-line Until = true
-right-line Awaited = false
+-- and so line by line
+module _ (M : Model) (lines : List Line) (count : ℕ) (lawful : Lawful-model M) (lawful-lines : Lawful-lines lines count) where
+  lines-agree : (k : ℕ) → k ≤ count → (j : ℕ) → j < k → Agrees M (table M lines j) (formula-of lines j)
+  lines-agree zero h j l = absurd (omega arith)
+  lines-agree (suc k) h j l =
+      ⊎-elim
+      (λ (e : j ≡ k).
+          let p = placed lines count lawful-lines k (omega arith) in
+          let line = line-at lines k in
+          let agrees = kind-agrees M lawful (p .row .kind) (table M lines) (formula-of lines) k (line .left) (line .right) (lines-agree k (omega arith)) (p .below) in
+          subst (λ (i : ℕ). Agrees M (table M lines i) (formula-of lines i)) (sym e)
+          (λ d x hd hx. agree-at _ _ _ (ap yes? (table-at M lines k p d x)) (subst (λ (f : Formula). Agree (yes? (kind-plane M (p .row .kind) (table M lines) (line .left) (line .right) d x)) (Sat M f x d)) (sym (formula-at lines k p)) (agrees d x hd hx))))
+      (λ (ne : j ≡ k → ⊥). lines-agree k (omega arith) j (omega arith))
+      (cases-eq j k)
 
--- the words of a kind agree with its formula where those of its operands do
-pub kind-agrees : (M : Model) → Lawful-model M → (kind : Kind) (lower : ℕ → Plane) (f : ℕ → Formula) (l r : ℕ)
-    → (left-line kind ≡ true → Agrees M (lower l) (f l)) → (right-line kind ≡ true → Agrees M (lower r) (f r))
-    → Agrees M (kind-plane M kind lower l r) (kind-formula kind f l r)
-kind-agrees M lawful Truth lower f l r al ar d x hd hx = (λ _. tt, λ _. refl)
-kind-agrees M lawful Reading lower f l r al ar d x hd hx = by-word _ 0 _ (λ e. e, λ e. e)
-kind-agrees M lawful Not lower f l r al ar d x hd hx = by-word _ 0 _ (agree-not _ _ (al refl d x hd hx))
-kind-agrees M lawful Or lower f l r al ar d x hd hx = by-word _ 0 _ (agree-or _ _ _ _ (al refl d x hd hx) (ar refl d x hd hx))
-kind-agrees M lawful Near lower f l r al ar d x hd hx =
-    near-agrees (M .points) (M .leads) (lawful .floor) (λ y. yes? (lower l d y)) (λ y. Sat M (f l) y d) (λ y h. al refl d y hd h) x hx
-kind-agrees M lawful Surrounded lower f l r al ar d x hd hx =
-    surrounded-agrees (M .points) (M .leads) (lawful .floor) (λ y. yes? (lower l d y)) (λ y. Sat M (f l) y d) (λ y h. al refl d y hd h)
-    (λ y. yes? (lower r d y)) (λ y. Sat M (f r) y d) (λ y h. ar refl d y hd h) x hx
-kind-agrees M lawful Next lower f l r al ar d x hd hx =
-    by-word _ 0 _ (next-agrees (M .days) (M .after) (lawful .calendar) (lawful .unending) (λ e. yes? (lower l e x)) (λ e. Sat M (f l) x e) (λ e h. al refl e x h hx) d)
-kind-agrees M lawful Until lower f l r al ar d x hd hx =
-    until-agrees (M .days) (M .after) (lawful .calendar) (lawful .unending) (λ e. yes? (lower l e x)) (λ e. Sat M (f l) x e) (λ e h. al refl e x h hx)
-    (λ e. yes? (lower r e x)) (λ e. Sat M (f r) x e) (λ e h. ar refl e x h hx) d hd
-kind-agrees M lawful Awaited lower f l r al ar d x hd hx =
-    awaited-agrees (M .days) (M .after) (lawful .calendar) (lawful .unending) (λ e. yes? (lower l e x)) (λ e. Sat M (f l) x e) (λ e h. al refl e x h hx) d hd
+pub satisfaction : Satisfaction
+satisfaction M lines count lawful lawful-lines i d x hi hd hx = lines-agree M lines count lawful lawful-lines count (omega arith) i hi d x hd hx

@@ -3,6 +3,8 @@ use mathlib.Core.Bool.{Bool}
 use mathlib.Core.List.{List}
 use Prim.Native.Nat.{ℕ, _+_, _*_}
 use lib.ListN.{getD}
+use Rattle.model.specs.declared.line.Line.{Line}
+use Rattle.model.specs.Entries.{Obeys, Holds}
 use Rattle.model.specs.Logic.{Model}
 use Rattle.model.specs.Masks.{bit}
 use Rattle.model.specs.Table.{Plane}
@@ -19,3 +21,11 @@ finding-in findings points days i d x = getD findings ((i * days + d) * points +
 abbrev pub model-of : ℕ → (ℕ → ℕ → Bool) → ℕ → (ℕ → ℕ → Bool) → List ℕ → Model
 model-of points leads days after readings =
     record { points = points; leads = leads; days = days; after = after; reading = reading-in readings points }
+
+-- the findings book holds the table's word at each place of the first `count` lines
+abbrev pub Book-holds : Model → List Line → ℕ → List ℕ → Type 0
+Book-holds M lines count findings = Holds M lines count (finding-in findings (M .points) (M .days))
+
+-- the findings book obeys the entry rule there; its words are below 2 ^ 32, so a result of 2 ^ 32 or more matches none
+abbrev pub Book-obeys : Model → List Line → ℕ → List ℕ → Type 0
+Book-obeys M lines count findings = Obeys M lines count (finding-in findings (M .points) (M .days))

@@ -15,3 +15,4 @@ pub mod Table
 pub mod Entries
 pub mod Books
 pub mod Theorems
+pub mod Heaps

@@ -2,7 +2,7 @@
 use mathlib.Core.Bool.{Bool, true, false, not, _&&_}
 use mathlib.Core.List.{List, [], _∷_}
 use mathlib.Core.Path.{_≡_}
-use Prim.Native.Nat.{ℕ, zero, suc, _≤_, _<_}
+use Prim.Native.Nat.{ℕ, zero, suc, _+_, _≤_, _<_}
 use Rattle.std.specs.Options.{valueOr}
 use Rattle.model.specs.Logic.{Run}
 use Rattle.model.specs.Numbers.{least}
@@ -69,3 +69,4 @@ pub record Circling (m : ℕ) (after : ℕ → ℕ → Bool) (awaited answer : �
   pub goes : (i : ℕ) → after (no-days m after answer d i) (no-days m after answer d (suc i)) ≡ true
   pub never : (i : ℕ) → awaited (no-days m after answer d i) ≡ false
   pub repeats : (i : ℕ) × (j : ℕ) × (i < j) × (j ≤ m) × (no-days m after answer d i ≡ no-days m after answer d j)
+      × ((k : ℕ) → no-days m after answer d (i + k) ≡ no-days m after answer d (j + k))

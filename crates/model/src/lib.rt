@@ -10,6 +10,7 @@ mod link_calendar;
 mod link_floor;
 mod links;
 mod refusal;
+mod theorems;
 
 pub use calendar::Calendar;
 pub use chain::ChainCalendar;
@@ -30,3 +31,10 @@ pub use link_calendar::LinkCalendarFloor;
 pub use link_floor::LinkFloor;
 pub use link_floor::LinkFloorFloor;
 pub use refusal::Refusal;
+pub use theorems::awaited_means_every_future;
+pub use theorems::entry_rule_has_one_solution;
+pub use theorems::numbers_are_bounded;
+pub use theorems::small_heaps_are_as_worked_by_hand;
+pub use theorems::surrounded_means_no_way_out;
+pub use theorems::table_means_satisfaction;
+pub use theorems::until_means_a_beginning;
