@@ -64,7 +64,7 @@ bounds M lines i d x row named some-points some-days few-points few-days =
     let step : (ℕ → Plane) → ℕ → Plane = λ lower k. row-plane M (kind-row (line-at lines k .kind)) lower (line-at lines k) in
     let lower = built (λ d x. 0) step i in
     let w : table M lines i d x ≡ kind-plane M (row .kind) lower (line-at lines i .left) (line-at lines i .right) d x =
-        ap (λ (q : Plane). q d x) (built-at (λ d x. 0) step (suc i) i (omega arith)) ∙ ap (λ o. row-plane M o lower (line-at lines i) d x) named in
+    ap (λ (q : Plane). q d x) (built-at (λ d x. 0) step (suc i) i (omega arith)) ∙ ap (λ o. row-plane M o lower (line-at lines i) d x) named in
     let below : number (table M lines i d x) < kind-bound M (row .kind) =
-        subst (λ (v : ℕ). number v < kind-bound M (row .kind)) (sym w) (kind-below M (row .kind) lower (line-at lines i .left) (line-at lines i .right) d x some-points some-days) in
+    subst (λ (v : ℕ). number v < kind-bound M (row .kind)) (sym w) (kind-below M (row .kind) lower (line-at lines i .left) (line-at lines i .right) d x some-points some-days) in
     (below, omega (arith, bound-most M (row .kind) few-points few-days))

@@ -66,14 +66,14 @@ tally-more zero t u implies k h f g = absurd (omega arith)
 tally-more (suc n) t u implies k h f g =
     ⊎-elim
     (λ (e : k ≡ n).
-        let rest = tally-weaker n t u (λ j l. implies j (omega arith)) in
-        let tn : t n ≡ false = rw (← e) f in
-        let un : u n ≡ true = rw (← e) g in
-        rw (tn, un) (omega arith))
+    let rest = tally-weaker n t u (λ j l. implies j (omega arith)) in
+    let tn : t n ≡ false = rw (← e) f in
+    let un : u n ≡ true = rw (← e) g in
+    rw (tn, un) (omega arith))
     (λ (e : k ≡ n → ⊥).
-        let rest = tally-more n t u (λ j l. implies j (omega arith)) k (omega arith) f g in
-        let here = implies n (omega arith) in
-        grind arith)
+    let rest = tally-more n t u (λ j l. implies j (omega arith)) k (omega arith) f g in
+    let here = implies n (omega arith) in
+    grind arith)
     (cases-eq k n)
 
 -- nothing new at the next level
@@ -116,10 +116,10 @@ module _ (n : ℕ) (F : ℕ → ℕ → Bool)
   moves k =
       ⊎-elim (λ (l : tally n (F k) < tally n (F (suc k))). inr (omega arith))
       (λ (l : tally n (F (suc k)) ≤ tally n (F k)). inl (λ x h.
-          ⊎-elim (λ (t : F k x ≡ true). rises k x h t ∙ sym t)
-          (λ (f : F k x ≡ false).
-              ⊎-elim (λ (t : F (suc k) x ≡ true). absurd (omega (arith, tally-more n (F k) (F (suc k)) (rises k) x h f t))) (λ (g : F (suc k) x ≡ false). g ∙ sym f) (cases-bool (F (suc k) x)))
-          (cases-bool (F k x))))
+      ⊎-elim (λ (t : F k x ≡ true). rises k x h t ∙ sym t)
+      (λ (f : F k x ≡ false).
+      ⊎-elim (λ (t : F (suc k) x ≡ true). absurd (omega (arith, tally-more n (F k) (F (suc k)) (rises k) x h f t))) (λ (g : F (suc k) x ≡ false). g ∙ sym f) (cases-bool (F (suc k) x)))
+      (cases-bool (F k x))))
       (cases-lt (tally n (F k)) (tally n (F (suc k))))
 
   progress : (j : ℕ) → ((i : ℕ) × (i < j) × At-rest n F i) ⊎ (tally n (F 0) + j ≤ tally n (F j))
@@ -134,15 +134,18 @@ module _ (n : ℕ) (F : ℕ → ℕ → Bool)
   settles k x l t =
       ⊎-elim
       (λ (none : tally n (F 0) ≡ 0).
-          let empty = tally-empty n (F 0) none in
-          let rest : At-rest n F 0 = λ y h. starts empty y h ∙ sym (empty y h) in
-          absurd (both-ways (F 0 x) (empty x l) (sym (same-later 0 k x (omega arith) rest l) ∙ t)))
+      let empty = tally-empty n (F 0) none in
+      let rest : At-rest n F 0 = λ y h. starts empty y h ∙ sym (empty y h) in
+      absurd (both-ways (F 0 x) (empty x l) (sym (same-later 0 k x (omega arith) rest l) ∙ t)))
       (λ (some : tally n (F 0) ≡ 0 → ⊥).
-          ⊎-elim
-          (λ w. (w .0, omega (arith, w .1),
-              ⊎-elim (λ (h : k < w .0). rise k (w .0) x (omega arith) l t) (λ (h : w .0 ≤ k). sym (same-later (w .0) k x h (w .2) l) ∙ t) (cases-lt k (w .0))))
-          (λ (h : tally n (F 0) + (n - 1) ≤ tally n (F (n - 1))). (n - 1, omega arith, tally-full n (F (n - 1)) (omega arith) x l))
-          (progress (n - 1)))
+      ⊎-elim
+      (λ w. (
+        w .0,
+        omega (arith, w .1),
+        ⊎-elim (λ (h : k < w .0). rise k (w .0) x (omega arith) l t) (λ (h : w .0 ≤ k). sym (same-later (w .0) k x h (w .2) l) ∙ t) (cases-lt k (w .0)),
+      ))
+      (λ (h : tally n (F 0) + (n - 1) ≤ tally n (F (n - 1))). (n - 1, omega arith, tally-full n (F (n - 1)) (omega arith) x l))
+      (progress (n - 1)))
       (cases-eq (tally n (F 0)) 0)
 
   -- x is in level k exactly when the least level that has it is found, at or below k

@@ -13,5 +13,8 @@ pub mod Runs
 pub mod Futures
 pub mod Unfolding
 pub mod Satisfied
+pub mod Encodings
+pub mod Fixpoints
+pub mod Solution
 pub mod Bounded
 pub mod SmallHeaps

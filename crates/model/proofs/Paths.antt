@@ -53,9 +53,10 @@ same-rank o r s e f = cc
 module _ (leads : ℕ → ℕ → Bool) (left right : ℕ → Bool) where
   way-path : (x : ℕ) (rest : List ℕ) → Way-out leads left right x rest → Path-to (λ y z. leads y z && not (right z)) (λ y. not (left y)) x rest
   way-path x [] w = not-from-false (left x) (w .outside)
-  way-path x (y ∷ ys) w =
-      (and-from _ _ (w .walk .0) (not-from-false (right y) (w .unbarred .0)),
-       way-path y ys (record { walk = w .walk .1; outside = w .outside; unbarred = w .unbarred .1 }))
+  way-path x (y ∷ ys) w = (
+    and-from _ _ (w .walk .0) (not-from-false (right y) (w .unbarred .0)),
+    way-path y ys (record { walk = w .walk .1; outside = w .outside; unbarred = w .unbarred .1 }),
+  )
 
   path-way : (x : ℕ) (rest : List ℕ) → Path-to (λ y z. leads y z && not (right z)) (λ y. not (left y)) x rest → Way-out leads left right x rest
   path-way x [] p = record { walk = tt; outside = not-true (left x) p; unbarred = tt }
@@ -98,7 +99,7 @@ module _ (n : ℕ) (leads : ℕ → ℕ → Bool) (inside : Inside n leads) (lef
       let step : ℕ → ℕ → Bool = λ y z. leads y z && not (right z) in
       let goal : ℕ → Bool = λ y. not (left y) in
       let there : (y : ℕ) → shut n step goal y ≡ true → (y < n) × (rank n step goal y ≡ None) =
-          λ y t. let p = and-parts (ltb y n) (not (isSome (rank n step goal y))) t in (ltb-true y n (p .0), none-of (rank n step goal y) (p .1)) in
+      λ y t. let p = and-parts (ltb y n) (not (isSome (rank n step goal y))) t in (ltb-true y n (p .0), none-of (rank n step goal y) (p .1)) in
       record {
         points = λ y t. there y t .0;
         throughout = λ y t.
@@ -108,8 +109,8 @@ module _ (n : ℕ) (leads : ℕ → ℕ → Bool) (inside : Inside n leads) (lef
             let w = some-of (rank n step goal z) (and-false (ltb z n) (not (isSome (rank n step goal z))) (lt-ltb z n h) f) in
             ⊎-elim (λ e. e)
             (λ (g : right z ≡ false).
-                absurd (both-ways _ (no-rank n step goal (suc (w .0)) y (there y t .0) (there y t .1))
-                (reaches-step n step goal (w .0) y z h (and-from _ _ l (not-from-false (right z) g)) (rank-reaches n step goal (w .0) z (w .0) h (w .1) (omega arith)))))
+            absurd (both-ways _ (no-rank n step goal (suc (w .0)) y (there y t .0) (there y t .1))
+            (reaches-step n step goal (w .0) y z h (and-from _ _ l (not-from-false (right z) g)) (rank-reaches n step goal (w .0) z (w .0) h (w .1) (omega arith)))))
             (cases-bool (right z));
       }
 
@@ -133,23 +134,23 @@ module _ (n : ℕ) (leads : ℕ → ℕ → Bool) (inside : Inside n leads) (lef
     pub surrounded-means : Surrounded-means n leads left right x (surrounded-word n leads left right x)
     unfolding ranked
     surrounded-means = record {
-        no-by-a-way = (
-          λ e. let k = no-word-no ranked e in let w = way-of (k .0) (k .1) in (w .0, w .1),
-          λ w. let r = rank-of (w .0) (w .1) in ap (λ o. yes? (no-word o)) (r .1) ∙ word-yes false (r .0),
-        );
-        steps-of-one = λ e.
-            let k = no-word-no ranked e in
-            let w = way-of (k .0) (k .1) in
-            (w .0, w .1, w .2 ∙ sym (ap (λ o. number (no-word o)) (k .1) ∙ word-number false (k .0)));
-        fewest = λ rest w.
-            let r = rank-of rest w in
-            let e : number (no-word ranked) ≡ r .0 = ap (λ o. number (no-word o)) (r .1) ∙ word-number false (r .0) in
-            omega (arith, e, r .2);
-        yes-by-a-region = (
-          λ e. (shut n (λ y z. leads y z && not (right z)) (λ y. not (left y)), shut-region, and-from _ _ (lt-ltb x n h) (ap (λ o. not (isSome o)) (no-word-yes ranked e))),
-          λ w. region-yes (w .0) (w .1) (w .2) ranked refl,
-        );
-      }
+      no-by-a-way = (
+        λ e. let k = no-word-no ranked e in let w = way-of (k .0) (k .1) in (w .0, w .1),
+        λ w. let r = rank-of (w .0) (w .1) in ap (λ o. yes? (no-word o)) (r .1) ∙ word-yes false (r .0),
+      );
+      steps-of-one = λ e.
+          let k = no-word-no ranked e in
+          let w = way-of (k .0) (k .1) in
+          (w .0, w .1, w .2 ∙ sym (ap (λ o. number (no-word o)) (k .1) ∙ word-number false (k .0)));
+      fewest = λ rest w.
+          let r = rank-of rest w in
+          let e : number (no-word ranked) ≡ r .0 = ap (λ o. number (no-word o)) (r .1) ∙ word-number false (r .0) in
+          omega (arith, e, r .2);
+      yes-by-a-region = (
+        λ e. (shut n (λ y z. leads y z && not (right z)) (λ y. not (left y)), shut-region, and-from _ _ (lt-ltb x n h) (ap (λ o. not (isSome o)) (no-word-yes ranked e))),
+        λ w. region-yes (w .0) (w .1) (w .2) ranked refl,
+      );
+    }
 
 pub surrounded-law : Surrounded-law
 surrounded-law n leads inside left right x h = surrounded-means n leads inside left right x h
@@ -187,19 +188,19 @@ module _ (m : ℕ) (after : ℕ → ℕ → Bool) (inside : Inside m after) (lef
   pub until-means : Until-means after left right d (until-word m after left right d)
   unfolding begun
   until-means = record {
-      yes-by-a-beginning = (
-        λ e. let k = yes-word-yes begun e in let b = beginning-of (k .0) (k .1) in (b .0, b .1),
-        λ b. let r = begun-by (b .0) (b .1) in ap (λ o. yes? (yes-word o)) (r .1) ∙ word-yes true (r .0),
-      );
-      days-of-one = λ e.
-          let k = yes-word-yes begun e in
-          let b = beginning-of (k .0) (k .1) in
-          (b .0, b .1, b .2 ∙ sym (ap (λ o. number (yes-word o)) (k .1) ∙ word-number true (k .0)));
-      fewest = λ rest b.
-          let r = begun-by rest b in
-          let e : number (yes-word begun) ≡ r .0 = ap (λ o. number (yes-word o)) (r .1) ∙ word-number true (r .0) in
-          omega (arith, e, r .2);
-    }
+    yes-by-a-beginning = (
+      λ e. let k = yes-word-yes begun e in let b = beginning-of (k .0) (k .1) in (b .0, b .1),
+      λ b. let r = begun-by (b .0) (b .1) in ap (λ o. yes? (yes-word o)) (r .1) ∙ word-yes true (r .0),
+    );
+    days-of-one = λ e.
+        let k = yes-word-yes begun e in
+        let b = beginning-of (k .0) (k .1) in
+        (b .0, b .1, b .2 ∙ sym (ap (λ o. number (yes-word o)) (k .1) ∙ word-number true (k .0)));
+    fewest = λ rest b.
+        let r = begun-by rest b in
+        let e : number (yes-word begun) ≡ r .0 = ap (λ o. number (yes-word o)) (r .1) ∙ word-number true (r .0) in
+        omega (arith, e, r .2);
+  }
 
 pub until-law : Until-law
 until-law m after inside left right d h = until-means m after inside left right d h

@@ -39,7 +39,7 @@ module _ (n : ℕ) (step : ℕ → ℕ → Bool) (goal : ℕ → Bool) where
   starts : ((x : ℕ) → x < n → reaches n step goal 0 x ≡ false) → (x : ℕ) → x < n → reaches n step goal 1 x ≡ false
   starts none x h =
       ⊎-elim (λ (t : reaches n step goal 1 x ≡ true).
-          absurd (⊎-elim (λ g. both-ways (goal x) (none x h) g) (λ w. both-ways (goal (w .0)) (none (w .0) (w .1)) (w .3)) (reaches-by 0 x t)))
+      absurd (⊎-elim (λ g. both-ways (goal x) (none x h) g) (λ w. both-ways (goal (w .0)) (none (w .0) (w .1)) (w .3)) (reaches-by 0 x t)))
       (λ f. f) (cases-bool (reaches n step goal 1 x))
 
   -- a goal is reached by at most k steps exactly when the rank is found, at or below k
@@ -66,8 +66,8 @@ module _ (m : ℕ) (after : ℕ → ℕ → Bool) (awaited : ℕ → Bool) where
   sure-by k d t =
       ⊎-elim inl
       (λ s. inr (λ e h a.
-          ⊎-elim (λ (u : not (after d e) ≡ true). absurd (both-ways (after d e) (not-true (after d e) u) a)) (λ u. u)
-          (or-cases (not (after d e)) (sure m after awaited k e) (every-gives m (λ e. not (after d e) || sure m after awaited k e) s e h))))
+      ⊎-elim (λ (u : not (after d e) ≡ true). absurd (both-ways (after d e) (not-true (after d e) u) a)) (λ u. u)
+      (or-cases (not (after d e)) (sure m after awaited k e) (every-gives m (λ e. not (after d e) || sure m after awaited k e) s e h))))
       (or-cases (awaited d) (every m (λ e. not (after d e) || sure m after awaited k e)) t)
 
   sure-rises : (k d : ℕ) → d < m → sure m after awaited k d ≡ true → sure m after awaited (suc k) d ≡ true
@@ -84,7 +84,7 @@ module _ (m : ℕ) (after : ℕ → ℕ → Bool) (awaited : ℕ → Bool) where
         let e = unending d h in
         let l = inside d (e .0) (e .1) .1 in
         ⊎-elim (λ (t : sure m after awaited 1 d ≡ true).
-            absurd (⊎-elim (λ g. both-ways (awaited d) (none d h) g) (λ all. both-ways (awaited (e .0)) (none (e .0) l) (all (e .0) l (e .1))) (sure-by 0 d t)))
+        absurd (⊎-elim (λ g. both-ways (awaited d) (none d h) g) (λ all. both-ways (awaited (e .0)) (none (e .0) l) (all (e .0) l (e .1))) (sure-by 0 d t)))
         (λ f. f) (cases-bool (sure m after awaited 1 d))
 
     -- k steps make an awaited day sure exactly when the least such number is found, at or below k

@@ -57,10 +57,11 @@ module _ (m : ℕ) (after : ℕ → ℕ → Bool) (inside : Inside m after) (une
 pub run-begins : (after : ℕ → ℕ → Bool) (left right : ℕ → Bool) (n d : ℕ) (r : Run after d) → right (r .day n) ≡ true → ((k : ℕ) → k < n → left (r .day k) ≡ true) → (rest : List ℕ) × Beginning after left right d rest
 run-begins after left right zero d r t all = ([], record { walk = tt; until = subst (λ (e : ℕ). right e ≡ true) (r .starts) t; before = tt })
 run-begins after left right (suc n) d r t all =
-    let w = run-begins after left right n (r .day 1) (run-tail after d r) t (λ k h. all (suc k) (omega arith)) in
-    (r .day 1 ∷ w .0,
-     record {
-       walk = (run-leads after d r, w .1 .walk);
-       until = w .1 .until;
-       before = (subst (λ (e : ℕ). left e ≡ true) (r .starts) (all 0 (omega arith)), w .1 .before);
-     })
+    let w = run-begins after left right n (r .day 1) (run-tail after d r) t (λ k h. all (suc k) (omega arith)) in (
+      r .day 1 ∷ w .0,
+      record {
+        walk = (run-leads after d r, w .1 .walk);
+        until = w .1 .until;
+        before = (subst (λ (e : ℕ). left e ≡ true) (r .starts) (all 0 (omega arith)), w .1 .before);
+      },
+    )

@@ -60,9 +60,10 @@ module _ (n : ℕ) (leads : ℕ → ℕ → Bool) (inside : Inside n leads) (lef
   near-agrees : (x : ℕ) → x < n → Agree (yes? (near-word n leads left x)) (Closure leads P x)
   near-agrees x h =
       agree-at _ _ _ (near-answer n leads left x)
-      (agree-or (left x) (any n (λ y. leads y x && left y)) (P x) _ (agree x h)
-          (λ t. let w = any-gives n (λ y. leads y x && left y) t in let p = and-parts (leads (w .0) x) (left (w .0)) (w .2) in (w .0, agree (w .0) (w .1) .0 (p .1), p .0),
-           λ w. let l = inside (w .0) x (w .2) .0 in any-from n (λ y. leads y x && left y) (w .0) l (and-from _ _ (w .2) (agree (w .0) l .1 (w .1)))))
+      (agree-or (left x) (any n (λ y. leads y x && left y)) (P x) _ (agree x h) (
+        λ t. let w = any-gives n (λ y. leads y x && left y) t in let p = and-parts (leads (w .0) x) (left (w .0)) (w .2) in (w .0, agree (w .0) (w .1) .0 (p .1), p .0),
+        λ w. let l = inside (w .0) x (w .2) .0 in any-from n (λ y. leads y x && left y) (w .0) l (and-from _ _ (w .2) (agree (w .0) l .1 (w .1))),
+      ))
 
   -- surrounded: a region is a set whose closure's boundary has right throughout
   module _ (right : ℕ → Bool) (Q : ℕ → Type 0) (agree′ : (y : ℕ) → y < n → Agree (right y) (Q y)) where
@@ -71,16 +72,22 @@ module _ (n : ℕ) (leads : ℕ → ℕ → Bool) (inside : Inside n leads) (lef
     surrounded-agrees x h =
         let law = surrounded-law n leads inside left right x h .yes-by-a-region in (
           λ e. let w = law .0 e in
-              let r = w .1 in
-              (w .0, r .points, w .2,
-               (λ y t. agree y (r .points y t) .0 (r .throughout y t)),
-               (λ z b. bordered (w .0) r z (b .0) (b .1))),
-          λ w. law .1 (w .0,
-              record {
-                points = w .1;
-                throughout = λ y t. agree y (w .1 y t) .1 (w .3 y t);
-                border = λ y z t l f. agree′ z (inside y z l .1) .1 (w .4 z (inr (y, t, l), λ t′. both-ways (w .0 z) f t′));
-              }, w .2),
+              let r = w .1 in (
+                w .0,
+                r .points,
+                w .2,
+                (λ y t. agree y (r .points y t) .0 (r .throughout y t)),
+                (λ z b. bordered (w .0) r z (b .0) (b .1)),
+              ),
+          λ w. law .1 (
+            w .0,
+            record {
+              points = w .1;
+              throughout = λ y t. agree y (w .1 y t) .1 (w .3 y t);
+              border = λ y z t l f. agree′ z (inside y z l .1) .1 (w .4 z (inr (y, t, l), λ t′. both-ways (w .0 z) f t′));
+            },
+            w .2,
+          ),
         )
       where
         bordered : (A : ℕ → Bool) → Region n leads left right A → (z : ℕ) → Closure leads (λ y. A y ≡ true) z → (A z ≡ true → ⊥) → Q z
@@ -120,10 +127,10 @@ module _ (m : ℕ) (after : ℕ → ℕ → Bool) (inside : Inside m after) (une
         λ e r. let w = law .yes-by-a-bound .0 e .1 r in (w .0, agree _ (day-below d r (w .0)) .0 (w .2), λ k l. tt),
         λ all. ⊎-elim (λ t. t)
             (λ (f : yes? (awaited-word m after left d) ≡ false).
-                let c = law .circles f in
-                let r : Run after d = record { day = no-days m after (λ e. yes? (awaited-word m after left e)) d; starts = refl; goes = c .goes } in
-                let w = all r in
-                absurd (both-ways (left (r .day (w .0))) (c .never (w .0)) (agree _ (day-below d r (w .0)) .1 (w .1))))
+            let c = law .circles f in
+            let r : Run after d = record { day = no-days m after (λ e. yes? (awaited-word m after left e)) d; starts = refl; goes = c .goes } in
+            let w = all r in
+            absurd (both-ways (left (r .day (w .0))) (c .never (w .0)) (agree _ (day-below d r (w .0)) .1 (w .1))))
             (cases-bool (yes? (awaited-word m after left d))),
       )
 
@@ -158,11 +165,11 @@ module _ (M : Model) (lines : List Line) (count : ℕ) (lawful : Lawful-model M)
   lines-agree (suc k) h j l =
       ⊎-elim
       (λ (e : j ≡ k).
-          let p = placed lines count lawful-lines k (omega arith) in
-          let line = line-at lines k in
-          let agrees = kind-agrees M lawful (p .row .kind) (table M lines) (formula-of lines) k (line .left) (line .right) (lines-agree k (omega arith)) (p .below) in
-          subst (λ (i : ℕ). Agrees M (table M lines i) (formula-of lines i)) (sym e)
-          (λ d x hd hx. agree-at _ _ _ (ap yes? (table-at M lines k p d x)) (subst (λ (f : Formula). Agree (yes? (kind-plane M (p .row .kind) (table M lines) (line .left) (line .right) d x)) (Sat M f x d)) (sym (formula-at lines k p)) (agrees d x hd hx))))
+      let p = placed lines count lawful-lines k (omega arith) in
+      let line = line-at lines k in
+      let agrees = kind-agrees M lawful (p .row .kind) (table M lines) (formula-of lines) k (line .left) (line .right) (lines-agree k (omega arith)) (p .below) in
+      subst (λ (i : ℕ). Agrees M (table M lines i) (formula-of lines i)) (sym e)
+      (λ d x hd hx. agree-at _ _ _ (ap yes? (table-at M lines k p d x)) (subst (λ (f : Formula). Agree (yes? (kind-plane M (p .row .kind) (table M lines) (line .left) (line .right) d x)) (Sat M f x d)) (sym (formula-at lines k p)) (agrees d x hd hx))))
       (λ (ne : j ≡ k → ⊥). lines-agree k (omega arith) j (omega arith))
       (cases-eq j k)
 

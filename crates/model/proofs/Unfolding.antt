@@ -58,12 +58,14 @@ pub record Placed (lines : List Line) (i : ℕ) : Type 0 where
 abbrev Lawful : ℕ → Line → Option KindRow → Type 0
 Lawful i line o = row-ok o i line ≡ true → (row : KindRow) × (o ≡ Some row) × Below (row .kind) i (line .left) (line .right)
 
+-- operands that pass the test are lines below
 left-below : (i left : ℕ) (other : Bool) → (ltb left i && other) ≡ true → left < i
 left-below i left other h = ltb-true left i (and-parts (ltb left i) other h .0)
 
 both-below : (i left right : ℕ) → (ltb left i && ltb right i) ≡ true → (left < i) × (right < i)
 both-below i left right h = let parts = and-parts (ltb left i) (ltb right i) h in (ltb-true left i (parts .0), ltb-true right i (parts .1))
 
+-- the row of any letter gives that
 lawful-row : (i : ℕ) (line : Line) (letter : ℕ) → Lawful i line (kind-row letter)
 lawful-row i line =
     among (Lawful i line) kinds (λ h. absurd (both-ways false refl h)) (
@@ -92,6 +94,7 @@ lawful-row i line =
       ),
     )
 
+-- every lawful line is placed so
 pub placed : (lines : List Line) (count : ℕ) → Lawful-lines lines count → (i : ℕ) → i < count → Placed lines i
 placed lines count lawful i h =
     let w = lawful-row i (line-at lines i) (line-at lines i .kind) (lawful i h) in
@@ -109,6 +112,7 @@ plane-below M Next lower lower′ i left right same b d x = rw (same left b)
 plane-below M Until lower lower′ i left right same b d x = rw (same left (b .0), same right (b .1))
 plane-below M Awaited lower lower′ i left right same b d x = rw (same left b)
 
+-- and so does its formula
 formula-below : (kind : Kind) (lower lower′ : ℕ → Formula) (i left right : ℕ) → ((j : ℕ) → j < i → lower j ≡ lower′ j) → Below kind i left right → kind-formula kind lower left right ≡ kind-formula kind lower′ left right
 formula-below Truth lower lower′ i left right same b = refl
 formula-below Reading lower lower′ i left right same b = refl
