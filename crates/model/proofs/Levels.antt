@@ -61,7 +61,7 @@ least-is-none n test none = go (least n test) refl
     go (Some k) e = let f = least-found n test k e in absurd (both-ways (test k) (none k (f .below)) (f .passes))
 
 -- a test that passes wherever another does, and once more, counts more
-tally-more : (n : ℕ) (t u : ℕ → Bool) → ((k : ℕ) → k < n → t k ≡ true → u k ≡ true) → (k : ℕ) → k < n → t k ≡ false → u k ≡ true → tally n t + 1 ≤ tally n u
+pub tally-more : (n : ℕ) (t u : ℕ → Bool) → ((k : ℕ) → k < n → t k ≡ true → u k ≡ true) → (k : ℕ) → k < n → t k ≡ false → u k ≡ true → tally n t + 1 ≤ tally n u
 tally-more zero t u implies k h f g = absurd (omega arith)
 tally-more (suc n) t u implies k h f g =
     ⊎-elim

@@ -47,11 +47,11 @@ module _ (m : ℕ) (after : ℕ → ℕ → Bool) (awaited awaited′ : ℕ → 
   wait-same d h = least-same m _ _ (λ k _. sure-same k d h)
 
 -- two lots of words agree on the days and points of a model at the lines below i
-abbrev Agree : Model → ℕ → (ℕ → Plane) → (ℕ → Plane) → Type 0
+abbrev pub Agree : Model → ℕ → (ℕ → Plane) → (ℕ → Plane) → Type 0
 Agree M i words words′ = (j d x : ℕ) → j < i → d < M .days → x < M .points → words j d x ≡ words′ j d x
 
 -- the words of a kind depend on what the lines below have on the days and points of the model only
-plane-same : (M : Model) (kind : Kind) (words words′ : ℕ → Plane) (i left right : ℕ) → Agree M i words words′ → Below kind i left right → (d x : ℕ) → d < M .days → x < M .points → kind-plane M kind words left right d x ≡ kind-plane M kind words′ left right d x
+pub plane-same : (M : Model) (kind : Kind) (words words′ : ℕ → Plane) (i left right : ℕ) → Agree M i words words′ → Below kind i left right → (d x : ℕ) → d < M .days → x < M .points → kind-plane M kind words left right d x ≡ kind-plane M kind words′ left right d x
 plane-same M Truth words words′ i left right same b d x h l = refl
 plane-same M Reading words words′ i left right same b d x h l = refl
 plane-same M Not words words′ i left right same b d x h l = rw (same left d x b h l)

@@ -31,7 +31,7 @@ pub built-stable : {A : Type 0} (none : A) (step : (ℕ → A) → ℕ → A) (k
 built-stable none step k j h = built-at none step k j h ∙ sym (built-at none step (suc j) j (omega arith))
 
 -- what holds without a row and with each row of a list holds with the row of any letter
-among : (P : Option KindRow → Type 0) (rows : List KindRow) → P None → All (λ r. P (Some r)) rows → (letter : ℕ) → P (row-among rows letter)
+pub among : (P : Option KindRow → Type 0) (rows : List KindRow) → P None → All (λ r. P (Some r)) rows → (letter : ℕ) → P (row-among rows letter)
 among P [] none all letter = none
 among P (r ∷ rows) none all letter =
     cond-both (eqb (r .letter) letter) (Some r) (row-among rows letter) P (λ _. all .0) (λ _. among P rows none (all .1) letter)
@@ -55,7 +55,7 @@ pub record Placed (lines : List Line) (i : ℕ) : Type 0 where
   pub below : Below (row .kind) i (line-at lines i .left) (line-at lines i .right)
 
 -- what a lawful row gives: itself, and the lines below
-abbrev Lawful : ℕ → Line → Option KindRow → Type 0
+abbrev pub Lawful : ℕ → Line → Option KindRow → Type 0
 Lawful i line o = row-ok o i line ≡ true → (row : KindRow) × (o ≡ Some row) × Below (row .kind) i (line .left) (line .right)
 
 -- operands that pass the test are lines below
@@ -66,7 +66,7 @@ both-below : (i left right : ℕ) → (ltb left i && ltb right i) ≡ true → (
 both-below i left right h = let parts = and-parts (ltb left i) (ltb right i) h in (ltb-true left i (parts .0), ltb-true right i (parts .1))
 
 -- the row of any letter gives that
-lawful-row : (i : ℕ) (line : Line) (letter : ℕ) → Lawful i line (kind-row letter)
+pub lawful-row : (i : ℕ) (line : Line) (letter : ℕ) → Lawful i line (kind-row letter)
 lawful-row i line =
     among (Lawful i line) kinds (λ h. absurd (both-ways false refl h)) (
       (λ _. (_, refl, tt)),

@@ -1,0 +1,10 @@
+pub mod Exploring
+pub mod Settling
+pub mod Filled
+pub mod MadeWords
+pub mod Nearness
+pub mod Nexts
+pub mod WaysFilled
+pub mod Columned
+pub mod LineWords
+pub mod LinesFilled

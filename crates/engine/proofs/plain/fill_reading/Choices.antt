@@ -1,0 +1,11 @@
+use mathlib.Core.Bool.{not, _||_}
+use Prim.Native.Nat.{_+_}
+use lib.ListN.{getD}
+use Rattle.model.specs.Masks.{bit}
+use Rattle.model.specs.Table.{word, yes?}
+use Rattle.engine.specs.Filling.{Written}
+use Rattle.engine.proofs.plain.fill_reading.Given as given
+
+-- the first k words are written
+abbrev pub Inv-loop-k : given.InvT-loop-k
+Inv-loop-k l = Written (l .base) (l .k) (λ k. word (bit (getD (l .readings) k 0) (l .atom)) 0) (l .entry .findings) (l .findings)

@@ -1,0 +1,3 @@
+pub mod Exploring
+pub mod Settling
+pub mod Filling
