@@ -5,17 +5,13 @@ use mathlib.Core.Path.{_≡_, refl, sym, ap, ap₂, _∙_}
 use Prim.Native.Nat.{ℕ, _+_, _*_, _/_, _%_, _≤_, _<_}
 use native.Mathlib.Omega.{arith}
 use lib.ListN.{length, getD, set}
-use Rattle.std.proofs.shelf.Bits.{div-mul-add, mod-mul-add, div-add-mod', div-below, mod-below}
+use Rattle.std.proofs.shelf.Bits.{div-add-mod', div-below, mod-below}
 use Rattle.std.proofs.shelf.Lists.{getD-set-same, getD-set-other}
 use Rattle.std.proofs.shelf.Tests.{cases-eq, cases-lt}
 use Rattle.model.specs.Table.{Plane}
+use Rattle.model.proofs.Grids.{same-place}
 use Rattle.engine.specs.Filling.{Written, in-order, Column, Columns}
 use Rattle.engine.proofs.Filled.{day-fits}
-
--- a place tells its day and its point
-same-day : (n d y e z : ℕ) → y < n → z < n → d * n + y ≡ e * n + z → (d ≡ e) × (y ≡ z)
-same-day n d y e z hy hz same =
-    (sym (div-mul-add d n y hy) ∙ ap (λ k. k / n) same ∙ div-mul-add e n z hz, sym (mod-mul-add d n y hy) ∙ ap (λ k. k % n) same ∙ mod-mul-add e n z hz)
 
 pub column-none : (base n x : ℕ) (value : ℕ → ℕ) (old : List ℕ) → Column base n 0 x value old old
 column-none base n x value old = record { words = λ d h. absurd (omega arith); others = λ k h. refl }
@@ -25,7 +21,7 @@ column-more base n j x v value old new hx held is w = record {
   words = λ d h.
       ⊎-elim (λ (e : d ≡ j). rw e (getD-set-same new (base + (j * n + x)) v 0 held ∙ is))
       (λ (ne : d ≢ j).
-      getD-set-other new (base + (j * n + x)) (base + (d * n + x)) v 0 (λ same. ne (same-day n d x j x hx hx (omega (arith, same)) .0))
+      getD-set-other new (base + (j * n + x)) (base + (d * n + x)) v 0 (λ same. ne (same-place n d x j x hx hx (omega (arith, same)) .0))
       ∙ w .words d (omega arith))
       (cases-eq d j);
   others = λ k h. getD-set-other new (base + (j * n + x)) k v 0 (λ same. h j (omega arith) same) ∙ w .others k (λ d l. h d (omega arith));
@@ -39,7 +35,7 @@ columns-more base n m x plane value old mid new hx same first second = record {
   words = λ d y h l.
       ⊎-elim (λ (e : y ≡ x). rw e (second .words d h ∙ same d h))
       (λ (ne : y ≢ x).
-      second .others (base + (d * n + y)) (λ e g at. ne (same-day n d y e x (omega arith) hx (omega (arith, at)) .1))
+      second .others (base + (d * n + y)) (λ e g at. ne (same-place n d y e x (omega arith) hx (omega (arith, at)) .1))
       ∙ first .words d y h (omega arith))
       (cases-eq y x);
   others = λ k h.

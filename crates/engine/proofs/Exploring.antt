@@ -346,17 +346,3 @@ module _ (n : ℕ) (goal : ℕ → Bool) (x tail : ℕ) (steps queue : List ℕ)
 
 pub begun-end : (n : ℕ) (goal : ℕ → Bool) (x tail : ℕ) (steps queue : List ℕ) → x ≡ n → Begun n goal x tail steps queue → (step : ℕ → ℕ → Bool) → Explored n step goal n (at steps) (at queue) 0 tail
 begun-end n goal x tail steps queue e begun step = subst (λ k. Explored n step goal k (at steps) (at queue) 0 tail) e (begun .state step)
-
--- steps and goals that agree below n give the same shortest ways
-least-same : (n : ℕ) (t u : ℕ → Bool) → ((k : ℕ) → k < n → t k ≡ u k) → least n t ≡ least n u
-least-same zero t u same = refl
-least-same (suc n) t u same = ap₂ (λ a b. or-later a (cond b (Some n) None)) (least-same n t u (λ k h. same k (omega arith))) (same n (omega arith))
-
-module _ (n : ℕ) (step step′ : ℕ → ℕ → Bool) (goal goal′ : ℕ → Bool) (steps-agree : (x y : ℕ) → x < n → y < n → step x y ≡ step′ x y) (goals-agree : (x : ℕ) → x < n → goal x ≡ goal′ x) where
-  reaches-same : (k x : ℕ) → x < n → reaches n step goal k x ≡ reaches n step′ goal′ k x
-  reaches-same zero x h = goals-agree x h
-  reaches-same (suc k) x h =
-      ap₂ (λ a b. a || b) (goals-agree x h) (any-same n _ _ (λ y l. ap₂ (λ a b. a && b) (steps-agree x y h l) (reaches-same k y l)))
-
-  pub rank-same : (x : ℕ) → x < n → rank n step goal x ≡ rank n step′ goal′ x
-  rank-same x h = least-same n _ _ (λ k _. reaches-same k x h)

@@ -9,7 +9,7 @@ ghost use Rattle.engine.specs.Exploring.{step-by, at, Same-from, Explored};
 use model::Floor;
 
 // What an exploration wants to know of each point: is it a goal, may it be left, may it be entered.
-pub trait Rules {
+pub(crate) trait Rules {
     // which points are goals
     ghost goal: { Self → ℕ → Bool };
 
@@ -124,7 +124,12 @@ fn follow<F: Floor, R: Rules>(
 
 // Writes for each point the fewest steps by which a goal is reached from it, or the number of points where none is reached. The queue is
 // only for its own use.
-pub fn explore<F: Floor, R: Rules>(floor: &F, rules: &R, steps: &mut [u16], queue: &mut [u16])
+pub(crate) fn explore<F: Floor, R: Rules>(
+    floor: &F,
+    rules: &R,
+    steps: &mut [u16],
+    queue: &mut [u16],
+)
     requires { ⌜ F·Floor .points (now floor) ≤ length (now steps) ⌝ ∗ ⌜ F·Floor .points (now floor) ≤ length (now queue) ⌝ }
     ensures shortest { λ _. ⌜ ((x : ℕ) → x < F·Floor .points (now (floor .entry)) → getD (now (steps .exit)) x 0 ≡ valueOr (rank (F·Floor .points (now (floor .entry))) (step-by (R·Rules .leave (now (rules .entry))) (F·Floor .leads (now (floor .entry))) (R·Rules .enter (now (rules .entry)))) (R·Rules .goal (now (rules .entry))) x) (F·Floor .points (now (floor .entry)))) ⌝ }
     ensures rest { λ _. ⌜ Same-from (F·Floor .points (now (floor .entry))) (now (steps .entry)) (now (steps .exit)) ⌝ }

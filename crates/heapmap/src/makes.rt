@@ -13,7 +13,7 @@ use model::LinkFloor;
 use model::LinkFloorFloor;
 use std::io;
 
-pub fn print_makes(rt: &LibcRuntime) -> io::Result<()> {
+pub(crate) fn print_makes(rt: &LibcRuntime) -> io::Result<()> {
     if let Ok(grid) = Grid::new(2, 3) {
         print_floor(rt, "grid of 2 rows and 3 columns", &grid)?;
     }

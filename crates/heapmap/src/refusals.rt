@@ -65,7 +65,7 @@ fn print_calendars(rt: &LibcRuntime) -> io::Result<()> {
     )
 }
 
-pub fn print_refusals(rt: &LibcRuntime) -> io::Result<()> {
+pub(crate) fn print_refusals(rt: &LibcRuntime) -> io::Result<()> {
     let list = [0u32; 131074];
     print_grids(rt)?;
     print_link_floors(rt, &list)?;

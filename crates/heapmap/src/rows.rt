@@ -33,7 +33,7 @@ fn print_links<F: Floor>(rt: &LibcRuntime, floor: &F, way: Way, p: usize) -> io:
 }
 
 // A line for each point: where it leads, and what leads to it.
-pub fn print_floor<F: Floor>(rt: &LibcRuntime, name: &str, floor: &F) -> io::Result<()> {
+pub(crate) fn print_floor<F: Floor>(rt: &LibcRuntime, name: &str, floor: &F) -> io::Result<()> {
     println!(rt, "{name}")?;
     for p in 0..floor.count() {
         print!(rt, "  point {p}, onward:")?;
@@ -46,7 +46,11 @@ pub fn print_floor<F: Floor>(rt: &LibcRuntime, name: &str, floor: &F) -> io::Res
 }
 
 // A line for each day: where it leads, and its morrow.
-pub fn print_calendar<C: Calendar>(rt: &LibcRuntime, name: &str, calendar: &C) -> io::Result<()> {
+pub(crate) fn print_calendar<C: Calendar>(
+    rt: &LibcRuntime,
+    name: &str,
+    calendar: &C,
+) -> io::Result<()> {
     println!(rt, "{name}")?;
     for d in 0..calendar.count() {
         print!(rt, "  day {d}, onward:")?;

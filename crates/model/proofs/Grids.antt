@@ -18,7 +18,7 @@ pub cols-below : (rows cols : ℕ) → 1 ≤ rows → cols ≤ rows * cols
 cols-below rows cols h = omega (arith, mul-le 1 cols rows cols h (omega arith), one-mul cols)
 
 -- a place tells its row and its column
-same-place : (cols r c s d : ℕ) → c < cols → d < cols → r * cols + c ≡ s * cols + d → (r ≡ s) × (c ≡ d)
+pub same-place : (cols r c s d : ℕ) → c < cols → d < cols → r * cols + c ≡ s * cols + d → (r ≡ s) × (c ≡ d)
 same-place cols r c s d hc hd e = (
   sym (div-mul-add r cols c hc) ∙ ap (λ x. x / cols) e ∙ div-mul-add s cols d hd,
   sym (mod-mul-add r cols c hc) ∙ ap (λ x. x % cols) e ∙ mod-mul-add s cols d hd,
