@@ -1,4 +1,6 @@
 // Works a survey of a chosen size, and prints a checksum of its findings.
+#![tactic(auto)]
+
 mod checksum;
 mod generator;
 mod inputs;

@@ -1,4 +1,6 @@
 // The engine: a survey's two states and the calls on them, over one exploration for shortest ways and lines filled in one after the other.
+#![tactic(auto)]
+
 mod asking;
 mod awaited;
 mod book;

@@ -1,4 +1,6 @@
 // The examiner: tests a findings book of any origin, entry by entry, against the book's own words. It takes nothing from the engine.
+#![tactic(auto)]
+
 mod awaited;
 mod examination;
 mod false_places;

@@ -1,4 +1,6 @@
 // Makes a floor and a calendar of each make, and prints where each point and each day leads, and what is refused.
+#![tactic(auto)]
+
 mod makes;
 mod refusals;
 mod rows;

@@ -1,4 +1,6 @@
 // A survey's whole life: events, one step, and a replay of any list of them under one law.
+#![tactic(auto)]
+
 mod event;
 mod replaying;
 mod stepping;

@@ -1,4 +1,6 @@
 // Floors, calendars and refusals: what the engine and the examiner both stand on.
+#![tactic(auto)]
+
 mod adjacency;
 mod answers;
 mod calendar;

@@ -1,4 +1,6 @@
 // Seven small heaps through every call of a survey, and what is refused.
+#![tactic(auto)]
+
 mod books;
 mod calls;
 mod gauges;

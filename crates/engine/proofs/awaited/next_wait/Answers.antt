@@ -27,8 +27,8 @@ loop-e-preserved g c =
       open_more n after waits c.args.d l.from e next.0 next.3 (omega arith) l.invariant.3,
     )
 
-pub overflow-add-result : goal.overflow-add-result
-overflow-add-result g c = let few = g.met.C.Floor.few c.args.calendar.now in omega arith
+pub overflow_add-result : goal.overflow_add-result
+overflow_add-result g c = let few = g.met.C.Floor.few c.args.calendar.now in omega arith
 
 pub returns : goal.returns
 returns g c =

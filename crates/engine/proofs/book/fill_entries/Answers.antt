@@ -5,8 +5,8 @@ use Rattle.model.proofs.Refusals.{InOrder, in_order}
 use Rattle.model.proofs.Satisfied.{holds_means}
 use Rattle.engine.proofs.book.fill_entries.Goals as goal
 
-pub fill-lines-requires : goal.fill-lines-requires
-fill-lines-requires g c =
+pub fill_lines-requires : goal.fill_lines-requires
+fill_lines-requires g c =
     let n = g.F.Floor.points c.args.floor.now in
     let m = g.C.Floor.points c.args.calendar.now in
     let k = c.args.numbers in
@@ -28,7 +28,7 @@ returns g c =
     let o = in_order k.points k.days k.lines n m (length c.args.readings.now) c.args.lines.now (length c.args.findings.now) c.requires in
     let M = model_of n (g.F.Floor.leads c.args.floor.now) m (g.C.Floor.leads c.args.calendar.now) c.args.readings.now in
     record {
-      holds = c.fill-lines.ensures.holds;
-      means = holds_means M c.args.lines.now k.lines (record { floor = g.met.F.Floor.inside c.args.floor.now; calendar = g.met.C.Floor.inside c.args.calendar.now; unending = g.met.C.Calendar.unending c.args.calendar.now }) o.lawful c.fill-lines.new.findings c.fill-lines.ensures.holds;
-      surplus = c.fill-lines.ensures.surplus;
+      holds = c.fill_lines.ensures.holds;
+      means = holds_means M c.args.lines.now k.lines (record { floor = g.met.F.Floor.inside c.args.floor.now; calendar = g.met.C.Floor.inside c.args.calendar.now; unending = g.met.C.Calendar.unending c.args.calendar.now }) o.lawful c.fill_lines.new.findings c.fill_lines.ensures.holds;
+      surplus = c.fill_lines.ensures.surplus;
     }

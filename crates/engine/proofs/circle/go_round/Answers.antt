@@ -14,21 +14,21 @@ loop-i-init g c =
     let awaited : ℕ → Bool = λ e. says_yes (at c.args.left.now e) in
     going_none m next awaited c.args.start (replicate 65 0) (omega arith) refl
 
-pub returns-then-stands-in : goal.returns-then-stands-in
-returns-then-stands-in g c =
+pub returns-then-stands_in : goal.returns-then-stands_in
+returns-then-stands_in g c =
     let m = g.C.Floor.points c.args.calendar.now in
     let next : ℕ → Option ℕ = next_no m (g.C.Floor.leads c.args.calendar.now) (at c.args.own.now) in
     let awaited : ℕ → Bool = λ e. says_yes (at c.args.left.now e) in
     let l = c.loop-i in
-    going_round m next awaited c.args.start l.i l.days l.d (omega arith) (omega arith) l.invariant c.if-stands-in.ensures
+    going_round m next awaited c.args.start l.i l.days l.d (omega arith) (omega arith) l.invariant c.if-stands_in.ensures
 
-pub returns-then-is-yes : goal.returns-then-is-yes
-returns-then-is-yes g c =
+pub returns-then-is_yes : goal.returns-then-is_yes
+returns-then-is_yes g c =
     let m = g.C.Floor.points c.args.calendar.now in
     let next : ℕ → Option ℕ = next_no m (g.C.Floor.leads c.args.calendar.now) (at c.args.own.now) in
     let awaited : ℕ → Bool = λ e. says_yes (at c.args.left.now e) in
     let l = c.loop-i in
-    going_awaited m next awaited c.args.start l.i l.days l.d (omega arith) (omega arith) l.invariant c.if-stands-in.ensures c.if-is-yes.ensures
+    going_awaited m next awaited c.args.start l.i l.days l.d (omega arith) (omega arith) l.invariant c.if-stands_in.ensures c.if-is_yes.ensures
 
 pub returns-in-default : goal.returns-in-default
 returns-in-default g c =
@@ -36,7 +36,7 @@ returns-in-default g c =
     let next : ℕ → Option ℕ = next_no m (g.C.Floor.leads c.args.calendar.now) (at c.args.own.now) in
     let awaited : ℕ → Bool = λ e. says_yes (at c.args.left.now e) in
     let l = c.loop-i in
-    going_nowhere m next awaited c.args.start l.i l.days l.d (omega arith) (omega arith) l.invariant c.if-stands-in.ensures c.if-is-yes.ensures c.in-default.ensures
+    going_nowhere m next awaited c.args.start l.i l.days l.d (omega arith) (omega arith) l.invariant c.if-stands_in.ensures c.if-is_yes.ensures c.in-default.ensures
 
 pub loop-i-preserved : goal.loop-i-preserved
 loop-i-preserved g c =
@@ -45,7 +45,7 @@ loop-i-preserved g c =
     let next : ℕ → Option ℕ = next_no m after (at c.args.own.now) in
     let awaited : ℕ → Bool = λ e. says_yes (at c.args.left.now e) in
     let l = c.loop-i in
-    going_on m next awaited c.args.start l.i l.days l.d (omega arith) (omega arith) l.invariant c.in-Some.e c.if-stands-in.ensures c.if-is-yes.ensures c.in-Some.ensures
+    going_on m next awaited c.args.start l.i l.days l.d (omega arith) (omega arith) l.invariant c.in-Some.e c.if-stands_in.ensures c.if-is_yes.ensures c.in-Some.ensures
     (least_found m (λ e. after l.d e && not (says_yes (at c.args.own.now e))) c.in-Some.e (sym c.in-Some.ensures)).below
 
 pub returns : goal.returns

@@ -11,10 +11,10 @@ returns-then-goals-eq0 g c =
     let n = g.F.Floor.points floor in
     let step = step_by (g.R.Rules.leave rules) (g.F.Floor.leads floor) (g.R.Rules.enter rules) in
     let goal = g.R.Rules.goal rules in
-    let steps = c.reach-goals-goals.new.steps in
-    let queue = c.reach-goals-goals.new.queue in
-    let state : Explored n step goal n (at steps) (at queue) 0 0 = rw (c.count-count.ensures, c.if-goals-eq0.true) at (c.reach-goals-goals.ensures.goals step) in
-    record { shortest = shortest n step goal 0 (at steps) (at queue) state; rest = λ k h. c.reach-goals-goals.ensures.rest k (omega arith) ∙ c.forget.ensures.rest k (omega arith) }
+    let steps = c.reach_goals-goals.new.steps in
+    let queue = c.reach_goals-goals.new.queue in
+    let state : Explored n step goal n (at steps) (at queue) 0 0 = rw (c.count-count.ensures, c.if-goals-eq0.true) at (c.reach_goals-goals.ensures.goals step) in
+    record { shortest = shortest n step goal 0 (at steps) (at queue) state; rest = λ k h. c.reach_goals-goals.ensures.rest k (omega arith) ∙ c.forget.ensures.rest k (omega arith) }
 
 pub follow-requires : goal.follow-requires
 follow-requires g c =
@@ -23,5 +23,5 @@ follow-requires g c =
     let step = step_by (g.R.Rules.leave rules) (g.F.Floor.leads floor) (g.R.Rules.enter rules) in
     record {
       room = (omega arith, omega arith);
-      state = rw c.count-count.ensures at (c.reach-goals-goals.ensures.goals step);
+      state = rw c.count-count.ensures at (c.reach_goals-goals.ensures.goals step);
     }

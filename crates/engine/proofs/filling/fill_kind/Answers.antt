@@ -25,8 +25,8 @@ sizes n m rn rm i l p q =
     let s = ap₂ (λ a b. a * b) q p in
     record { whole = ap (λ a. i * a) s; lower = ap (λ a. l * a) s; size = s; days = ap (λ a. a * n) q; points = ap (λ b. m * b) p; below = day_fits l i (m * n) }
 
-pub fill-reading-requires : goal.fill-reading-requires
-fill-reading-requires g c =
+pub fill_reading-requires : goal.fill_reading-requires
+fill_reading-requires g c =
     let n = g.F.Floor.points c.args.floor.now in
     let m = g.C.Floor.points c.args.calendar.now in
     let i = c.args.i in
@@ -36,8 +36,8 @@ fill-reading-requires g c =
     let l = sizes n m c.count-points.result c.count-days.result i c.args.left c.count-points.ensures c.count-days.ensures in
     record { held = (omega arith, omega arith); atom = operands }
 
-pub fill-not-requires : goal.fill-not-requires
-fill-not-requires g c =
+pub fill_not-requires : goal.fill_not-requires
+fill_not-requires g c =
     let n = g.F.Floor.points c.args.floor.now in
     let m = g.C.Floor.points c.args.calendar.now in
     let i = c.args.i in
@@ -48,8 +48,8 @@ fill-not-requires g c =
     let left_below = l.below operands in
     (omega arith, omega arith)
 
-pub fill-or-requires : goal.fill-or-requires
-fill-or-requires g c =
+pub fill_or-requires : goal.fill_or-requires
+fill_or-requires g c =
     let n = g.F.Floor.points c.args.floor.now in
     let m = g.C.Floor.points c.args.calendar.now in
     let i = c.args.i in
@@ -62,8 +62,8 @@ fill-or-requires g c =
     let right-below = r.below operands.1 in
     (omega arith, (omega arith, omega arith))
 
-pub fill-near-requires : goal.fill-near-requires
-fill-near-requires g c =
+pub fill_near-requires : goal.fill_near-requires
+fill_near-requires g c =
     let n = g.F.Floor.points c.args.floor.now in
     let m = g.C.Floor.points c.args.calendar.now in
     let i = c.args.i in
@@ -74,8 +74,8 @@ fill-near-requires g c =
     let left_below = l.below operands in
     (omega arith, (omega arith, omega arith))
 
-pub fill-surrounded-requires : goal.fill-surrounded-requires
-fill-surrounded-requires g c =
+pub fill_surrounded-requires : goal.fill_surrounded-requires
+fill_surrounded-requires g c =
     let n = g.F.Floor.points c.args.floor.now in
     let m = g.C.Floor.points c.args.calendar.now in
     let i = c.args.i in
@@ -88,8 +88,8 @@ fill-surrounded-requires g c =
     let right-below = r.below operands.1 in
     record { lower = (omega arith, (omega arith, (omega arith, omega arith))); room = (omega arith, omega arith) }
 
-pub fill-next-requires : goal.fill-next-requires
-fill-next-requires g c =
+pub fill_next-requires : goal.fill_next-requires
+fill_next-requires g c =
     let n = g.F.Floor.points c.args.floor.now in
     let m = g.C.Floor.points c.args.calendar.now in
     let i = c.args.i in
@@ -100,8 +100,8 @@ fill-next-requires g c =
     let left_below = l.below operands in
     (omega arith, (omega arith, omega arith))
 
-pub fill-until-requires : goal.fill-until-requires
-fill-until-requires g c =
+pub fill_until-requires : goal.fill_until-requires
+fill_until-requires g c =
     let n = g.F.Floor.points c.args.floor.now in
     let m = g.C.Floor.points c.args.calendar.now in
     let i = c.args.i in
@@ -114,8 +114,8 @@ fill-until-requires g c =
     let right-below = r.below operands.1 in
     record { lower = (omega arith, (omega arith, omega arith)); size = (omega arith, (omega arith, omega arith)); room = (omega arith, omega arith) }
 
-pub fill-future-requires : goal.fill-future-requires
-fill-future-requires g c =
+pub fill_future-requires : goal.fill_future-requires
+fill_future-requires g c =
     let n = g.F.Floor.points c.args.floor.now in
     let m = g.C.Floor.points c.args.calendar.now in
     let i = c.args.i in
@@ -135,11 +135,11 @@ returns-in-Truth g c =
     let after = g.C.Floor.leads c.args.calendar.now in
     let readings = c.args.readings.now in
     let old = c.args.findings.now in
-    let new = c.fill-truth.new.findings in
+    let new = c.fill_truth.new.findings in
     let l = c.args.left in
     let r = c.args.right in
     let written : Written (i * (m * n)) (m * n) (λ k. 1) old new =
-    subst₂ (λ (a b : ℕ). Written (i * (a * b)) (a * b) (λ k. 1) old new) c.count-days.ensures c.count-points.ensures c.fill-truth.ensures in
+    subst₂ (λ (a b : ℕ). Written (i * (a * b)) (a * b) (λ k. 1) old new) c.count-days.ensures c.count-points.ensures c.fill_truth.ensures in
     subst (λ (k : Kind). Written (i * (m * n)) (m * n) (in_order n (kind_plane (model_of n leads m after readings) k (finding_in old n m) l r)) old new) (sym c.in-Truth.is)
     (written_same (i * (m * n)) (m * n) (λ k. 1) (in_order n (kind_plane (model_of n leads m after readings) Truth (finding_in old n m) l r)) old new (λ k h. refl) written)
 
@@ -152,11 +152,11 @@ returns-in-Reading g c =
     let after = g.C.Floor.leads c.args.calendar.now in
     let readings = c.args.readings.now in
     let old = c.args.findings.now in
-    let new = c.fill-reading.new.findings in
+    let new = c.fill_reading.new.findings in
     let l = c.args.left in
     let r = c.args.right in
     let written : Written (i * (m * n)) (m * n) (λ k. word (bit (get_or readings k 0) l) 0) old new =
-    subst₂ (λ (a b : ℕ). Written (i * (a * b)) (a * b) (λ k. word (bit (get_or readings k 0) l) 0) old new) c.count-days.ensures c.count-points.ensures c.fill-reading.ensures in
+    subst₂ (λ (a b : ℕ). Written (i * (a * b)) (a * b) (λ k. word (bit (get_or readings k 0) l) 0) old new) c.count-days.ensures c.count-points.ensures c.fill_reading.ensures in
     subst (λ (k : Kind). Written (i * (m * n)) (m * n) (in_order n (kind_plane (model_of n leads m after readings) k (finding_in old n m) l r)) old new) (sym c.in-Reading.is)
     (written_same (i * (m * n)) (m * n) (λ k. word (bit (get_or readings k 0) l) 0) (in_order n (kind_plane (model_of n leads m after readings) Reading (finding_in old n m) l r)) old new (λ k h. reading_words n m old leads after readings l r k) written)
 
@@ -169,11 +169,11 @@ returns-in-Not g c =
     let after = g.C.Floor.leads c.args.calendar.now in
     let readings = c.args.readings.now in
     let old = c.args.findings.now in
-    let new = c.fill-not.new.findings in
+    let new = c.fill_not.new.findings in
     let l = c.args.left in
     let r = c.args.right in
     let written : Written (i * (m * n)) (m * n) (λ k. word (not (says_yes (get_or old (l * (m * n) + k) 0))) 0) old new =
-    subst₂ (λ (a b : ℕ). Written (i * (a * b)) (a * b) (λ k. word (not (says_yes (get_or old (l * (a * b) + k) 0))) 0) old new) c.count-days.ensures c.count-points.ensures c.fill-not.ensures in
+    subst₂ (λ (a b : ℕ). Written (i * (a * b)) (a * b) (λ k. word (not (says_yes (get_or old (l * (a * b) + k) 0))) 0) old new) c.count-days.ensures c.count-points.ensures c.fill_not.ensures in
     subst (λ (k : Kind). Written (i * (m * n)) (m * n) (in_order n (kind_plane (model_of n leads m after readings) k (finding_in old n m) l r)) old new) (sym c.in-Not.is)
     (written_same (i * (m * n)) (m * n) (λ k. word (not (says_yes (get_or old (l * (m * n) + k) 0))) 0) (in_order n (kind_plane (model_of n leads m after readings) Not (finding_in old n m) l r)) old new (λ k h. not_words n m old leads after readings l r k) written)
 
@@ -186,11 +186,11 @@ returns-in-Or g c =
     let after = g.C.Floor.leads c.args.calendar.now in
     let readings = c.args.readings.now in
     let old = c.args.findings.now in
-    let new = c.fill-or.new.findings in
+    let new = c.fill_or.new.findings in
     let l = c.args.left in
     let r = c.args.right in
     let written : Written (i * (m * n)) (m * n) (λ k. word (says_yes (get_or old (l * (m * n) + k) 0) || says_yes (get_or old (r * (m * n) + k) 0)) 0) old new =
-    subst₂ (λ (a b : ℕ). Written (i * (a * b)) (a * b) (λ k. word (says_yes (get_or old (l * (a * b) + k) 0) || says_yes (get_or old (r * (a * b) + k) 0)) 0) old new) c.count-days.ensures c.count-points.ensures c.fill-or.ensures in
+    subst₂ (λ (a b : ℕ). Written (i * (a * b)) (a * b) (λ k. word (says_yes (get_or old (l * (a * b) + k) 0) || says_yes (get_or old (r * (a * b) + k) 0)) 0) old new) c.count-days.ensures c.count-points.ensures c.fill_or.ensures in
     subst (λ (k : Kind). Written (i * (m * n)) (m * n) (in_order n (kind_plane (model_of n leads m after readings) k (finding_in old n m) l r)) old new) (sym c.in-Or.is)
     (written_same (i * (m * n)) (m * n) (λ k. word (says_yes (get_or old (l * (m * n) + k) 0) || says_yes (get_or old (r * (m * n) + k) 0)) 0) (in_order n (kind_plane (model_of n leads m after readings) Or (finding_in old n m) l r)) old new (λ k h. or_words n m old leads after readings l r k) written)
 
@@ -203,11 +203,11 @@ returns-in-Near g c =
     let after = g.C.Floor.leads c.args.calendar.now in
     let readings = c.args.readings.now in
     let old = c.args.findings.now in
-    let new = c.fill-near.new.findings in
+    let new = c.fill_near.new.findings in
     let l = c.args.left in
     let r = c.args.right in
     let written : Written (i * (m * n)) (m * n) (in_order n (λ d. near_word n leads (λ y. says_yes (get_or old (l * (m * n) + (d * n + y)) 0)))) old new =
-    subst₂ (λ (a b : ℕ). Written (i * (a * b)) (a * n) (in_order n (λ d. near_word n leads (λ y. says_yes (get_or old (l * (a * b) + (d * n + y)) 0)))) old new) c.count-days.ensures c.count-points.ensures c.fill-near.ensures in
+    subst₂ (λ (a b : ℕ). Written (i * (a * b)) (a * n) (in_order n (λ d. near_word n leads (λ y. says_yes (get_or old (l * (a * b) + (d * n + y)) 0)))) old new) c.count-days.ensures c.count-points.ensures c.fill_near.ensures in
     subst (λ (k : Kind). Written (i * (m * n)) (m * n) (in_order n (kind_plane (model_of n leads m after readings) k (finding_in old n m) l r)) old new) (sym c.in-Near.is)
     (written_same (i * (m * n)) (m * n) (in_order n (λ d. near_word n leads (λ y. says_yes (get_or old (l * (m * n) + (d * n + y)) 0)))) (in_order n (kind_plane (model_of n leads m after readings) Near (finding_in old n m) l r)) old new (λ k h. near_words n m old leads after readings l r k) written)
 
@@ -220,11 +220,11 @@ returns-in-Surrounded g c =
     let after = g.C.Floor.leads c.args.calendar.now in
     let readings = c.args.readings.now in
     let old = c.args.findings.now in
-    let new = c.fill-surrounded.new.findings in
+    let new = c.fill_surrounded.new.findings in
     let l = c.args.left in
     let r = c.args.right in
     let written : Written (i * (m * n)) (m * n) (in_order n (λ d. surrounded_word n leads (λ y. says_yes (get_or old (l * (m * n) + (d * n + y)) 0)) (λ y. says_yes (get_or old (r * (m * n) + (d * n + y)) 0)))) old new =
-    subst₂ (λ (a b : ℕ). Written (i * (a * b)) (a * n) (in_order n (λ d. surrounded_word n leads (λ y. says_yes (get_or old (l * (a * b) + (d * n + y)) 0)) (λ y. says_yes (get_or old (r * (a * b) + (d * n + y)) 0)))) old new) c.count-days.ensures c.count-points.ensures c.fill-surrounded.ensures in
+    subst₂ (λ (a b : ℕ). Written (i * (a * b)) (a * n) (in_order n (λ d. surrounded_word n leads (λ y. says_yes (get_or old (l * (a * b) + (d * n + y)) 0)) (λ y. says_yes (get_or old (r * (a * b) + (d * n + y)) 0)))) old new) c.count-days.ensures c.count-points.ensures c.fill_surrounded.ensures in
     subst (λ (k : Kind). Written (i * (m * n)) (m * n) (in_order n (kind_plane (model_of n leads m after readings) k (finding_in old n m) l r)) old new) (sym c.in-Surrounded.is)
     (written_same (i * (m * n)) (m * n) (in_order n (λ d. surrounded_word n leads (λ y. says_yes (get_or old (l * (m * n) + (d * n + y)) 0)) (λ y. says_yes (get_or old (r * (m * n) + (d * n + y)) 0)))) (in_order n (kind_plane (model_of n leads m after readings) Surrounded (finding_in old n m) l r)) old new (λ k h. surrounded_words n m old leads after readings l r k) written)
 
@@ -237,11 +237,11 @@ returns-in-Next g c =
     let after = g.C.Floor.leads c.args.calendar.now in
     let readings = c.args.readings.now in
     let old = c.args.findings.now in
-    let new = c.fill-next.new.findings in
+    let new = c.fill_next.new.findings in
     let l = c.args.left in
     let r = c.args.right in
     let written : Written (i * (m * n)) (m * n) (in_order n (λ d x. next_word m after (λ e. says_yes (get_or old (l * (m * n) + (e * n + x)) 0)) d)) old new =
-    subst₂ (λ (a b : ℕ). Written (i * (a * b)) (m * b) (in_order b (λ d x. next_word m after (λ e. says_yes (get_or old (l * (a * b) + (e * b + x)) 0)) d)) old new) c.count-days.ensures c.count-points.ensures c.fill-next.ensures in
+    subst₂ (λ (a b : ℕ). Written (i * (a * b)) (m * b) (in_order b (λ d x. next_word m after (λ e. says_yes (get_or old (l * (a * b) + (e * b + x)) 0)) d)) old new) c.count-days.ensures c.count-points.ensures c.fill_next.ensures in
     subst (λ (k : Kind). Written (i * (m * n)) (m * n) (in_order n (kind_plane (model_of n leads m after readings) k (finding_in old n m) l r)) old new) (sym c.in-Next.is)
     (written_same (i * (m * n)) (m * n) (in_order n (λ d x. next_word m after (λ e. says_yes (get_or old (l * (m * n) + (e * n + x)) 0)) d)) (in_order n (kind_plane (model_of n leads m after readings) Next (finding_in old n m) l r)) old new (λ k h. next_words n m old leads after readings l r k) written)
 
@@ -254,11 +254,11 @@ returns-in-Until g c =
     let after = g.C.Floor.leads c.args.calendar.now in
     let readings = c.args.readings.now in
     let old = c.args.findings.now in
-    let new = c.fill-until.new.findings in
+    let new = c.fill_until.new.findings in
     let l = c.args.left in
     let r = c.args.right in
     let written : Written (i * (m * n)) (m * n) (in_order n (λ d x. until_word m after (λ e. says_yes (get_or old (l * (m * n) + (e * n + x)) 0)) (λ e. says_yes (get_or old (r * (m * n) + (e * n + x)) 0)) d)) old new =
-    subst₂ (λ (a b : ℕ). Written (i * (a * b)) (m * b) (in_order b (λ d x. until_word m after (λ e. says_yes (get_or old (l * (a * b) + (e * b + x)) 0)) (λ e. says_yes (get_or old (r * (a * b) + (e * b + x)) 0)) d)) old new) c.count-days.ensures c.count-points.ensures c.fill-until.ensures in
+    subst₂ (λ (a b : ℕ). Written (i * (a * b)) (m * b) (in_order b (λ d x. until_word m after (λ e. says_yes (get_or old (l * (a * b) + (e * b + x)) 0)) (λ e. says_yes (get_or old (r * (a * b) + (e * b + x)) 0)) d)) old new) c.count-days.ensures c.count-points.ensures c.fill_until.ensures in
     subst (λ (k : Kind). Written (i * (m * n)) (m * n) (in_order n (kind_plane (model_of n leads m after readings) k (finding_in old n m) l r)) old new) (sym c.in-Until.is)
     (written_same (i * (m * n)) (m * n) (in_order n (λ d x. until_word m after (λ e. says_yes (get_or old (l * (m * n) + (e * n + x)) 0)) (λ e. says_yes (get_or old (r * (m * n) + (e * n + x)) 0)) d)) (in_order n (kind_plane (model_of n leads m after readings) Until (finding_in old n m) l r)) old new (λ k h. until_words n m old leads after readings l r k) written)
 
@@ -271,10 +271,10 @@ returns-in-Awaited g c =
     let after = g.C.Floor.leads c.args.calendar.now in
     let readings = c.args.readings.now in
     let old = c.args.findings.now in
-    let new = c.fill-future.new.findings in
+    let new = c.fill_future.new.findings in
     let l = c.args.left in
     let r = c.args.right in
     let written : Written (i * (m * n)) (m * n) (in_order n (λ d x. awaited_word m after (λ e. says_yes (get_or old (l * (m * n) + (e * n + x)) 0)) d)) old new =
-    subst₂ (λ (a b : ℕ). Written (i * (a * b)) (m * b) (in_order b (λ d x. awaited_word m after (λ e. says_yes (get_or old (l * (a * b) + (e * b + x)) 0)) d)) old new) c.count-days.ensures c.count-points.ensures c.fill-future.ensures in
+    subst₂ (λ (a b : ℕ). Written (i * (a * b)) (m * b) (in_order b (λ d x. awaited_word m after (λ e. says_yes (get_or old (l * (a * b) + (e * b + x)) 0)) d)) old new) c.count-days.ensures c.count-points.ensures c.fill_future.ensures in
     subst (λ (k : Kind). Written (i * (m * n)) (m * n) (in_order n (kind_plane (model_of n leads m after readings) k (finding_in old n m) l r)) old new) (sym c.in-Awaited.is)
     (written_same (i * (m * n)) (m * n) (in_order n (λ d x. awaited_word m after (λ e. says_yes (get_or old (l * (m * n) + (e * n + x)) 0)) d)) (in_order n (kind_plane (model_of n leads m after readings) Awaited (finding_in old n m) l r)) old new (λ k h. awaited_words n m old leads after readings l r k) written)

@@ -8,8 +8,8 @@ use Rattle.engine.proofs.Filled.{day_fits}
 use Rattle.engine.proofs.LinesFilled.{line_more}
 use Rattle.engine.proofs.filling.fill_lines.Goals as goal
 
-pub fill-kind-requires : goal.fill-kind-requires
-fill-kind-requires g c =
+pub fill_kind-requires : goal.fill_kind-requires
+fill_kind-requires g c =
     let i = c.loop-i.i in
     let line = line_at c.args.lines.now i in
     let fits = day_fits i c.args.count (g.C.Floor.points c.args.calendar.now * g.F.Floor.points c.args.floor.now) c.loop-i-test.true in
@@ -30,8 +30,8 @@ loop-i-preserved g c =
     let row = c.in-Some.row in
     let named = sym c.in-Some.ensures in
     let p : Placed lines i = record { row = row; named = named; below = operands_of i line row named (c.requires.lawful i c.loop-i-test.true) } in (
-      line_more n m (g.F.Floor.leads c.args.floor.now) (g.C.Floor.leads c.args.calendar.now) c.args.readings.now lines i p c.loop-i.findings c.fill-kind.new.findings c.loop-i.invariant.0 c.fill-kind.ensures,
-      (λ k h. c.fill-kind.ensures.others k (inr (omega (arith, add-mul i 1 (m * n), one-mul (m * n)))) ∙ c.loop-i.invariant.1 k (omega (arith, add-mul i 1 (m * n), one-mul (m * n)))),
+      line_more n m (g.F.Floor.leads c.args.floor.now) (g.C.Floor.leads c.args.calendar.now) c.args.readings.now lines i p c.loop-i.findings c.fill_kind.new.findings c.loop-i.invariant.0 c.fill_kind.ensures,
+      (λ k h. c.fill_kind.ensures.others k (inr (omega (arith, add-mul i 1 (m * n), one-mul (m * n)))) ∙ c.loop-i.invariant.1 k (omega (arith, add-mul i 1 (m * n), one-mul (m * n)))),
     )
 
 pub loop-i-preserved-in-default : goal.loop-i-preserved-in-default

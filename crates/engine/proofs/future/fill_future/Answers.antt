@@ -22,7 +22,7 @@ loop-x-preserved g c =
     let plane : Plane = λ d x. awaited_word m after (λ e. says_yes (get_or old (l + (e * n + x)) 0)) d in
     let same = awaited_same m after (λ e. says_yes (get_or mid (l + (e * n + x)) 0)) (λ e. says_yes (get_or old (l + (e * n + x)) 0))
     (λ e h. let fits = day_fits e m n h in ap says_yes (c.loop-x.invariant.others (l + (e * n + x)) (inl (omega arith)))) in
-    columns_more c.args.base n m x plane (awaited_word m after (λ e. says_yes (get_or mid (l + (e * n + x)) 0))) old mid c.future-point.new.findings (omega arith) same c.loop-x.invariant c.future-point.ensures
+    columns_more c.args.base n m x plane (awaited_word m after (λ e. says_yes (get_or mid (l + (e * n + x)) 0))) old mid c.future_point.new.findings (omega arith) same c.loop-x.invariant c.future_point.ensures
 
 pub returns : goal.returns
 returns g c =

@@ -6,8 +6,8 @@ use Rattle.engine.specs.Strips.{Put}
 use Rattle.engine.proofs.KindsShown.{line_fits, column_word, round_same}
 use Rattle.engine.proofs.kinds_shown.show_future.Goals as goal
 
-pub read-column-left-words-requires : goal.read-column-left-words-requires
-read-column-left-words-requires g c =
+pub read_column-left_words-requires : goal.read_column-left_words-requires
+read_column-left_words-requires g c =
     let m = g.C.Floor.points c.args.calendar.now in
     let n = c.args.points in
     let s = ap (λ (k : ℕ). c.args.left * (k * n) + k * n) c.count-days.ensures in
@@ -23,7 +23,7 @@ returns g c =
     let x = c.args.x in
     let column : ℕ → ℕ → ℕ = λ l e. finding_in book n m l e x in
     let named : (l e : ℕ) → get_or book (l * (c.count-days.result * n) + (e * n + x)) 0 ≡ column l e = λ l e. column_word book n m c.count-days.result l e x c.count-days.ensures in
-    let same = round_same m after (at c.read-column-own.result) (at c.read-column-left-words.result) (column c.args.i) (column c.args.left)
-    (λ e h. c.read-column-own.ensures e (omega arith) ∙ named c.args.i e)
-    (λ e h. c.read-column-left-words.ensures e (omega arith) ∙ named c.args.left e) c.args.day (omega arith) in
-    subst (λ (o : Option (List ℕ)). Put o c.args.strip.now c.show-circle.new.strip c.show-circle.result) same c.show-circle.ensures
+    let same = round_same m after (at c.read_column-own.result) (at c.read_column-left_words.result) (column c.args.i) (column c.args.left)
+    (λ e h. c.read_column-own.ensures e (omega arith) ∙ named c.args.i e)
+    (λ e h. c.read_column-left_words.ensures e (omega arith) ∙ named c.args.left e) c.args.day (omega arith) in
+    subst (λ (o : Option (List ℕ)). Put o c.args.strip.now c.show_circle.new.strip c.show_circle.result) same c.show_circle.ensures

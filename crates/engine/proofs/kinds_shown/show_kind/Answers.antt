@@ -20,7 +20,7 @@ returns-in-Surrounded g c =
     let d = c.args.day in
     let x = c.args.x in
     let old = c.args.strip.now in
-    let s = c.show-surrounded in
+    let s = c.show_surrounded in
     let put = subst (λ (k : ℕ). Put (trace n (λ y z. leads y z && not (says_yes (finding_in book n k r d z))) (λ y. not (says_yes (finding_in book n k l d y))) (λ y. finding_in book n k i d y) false (number (finding_in book n k i d x)) x) old s.new.strip s.result) c.count-days.ensures s.ensures in
     subst (λ (k : Kind). Put (kind_trail n leads m after k (finding_in book n m) l r i d x) old s.new.strip s.result) (sym c.in-Surrounded.is) put
 
@@ -37,7 +37,7 @@ returns-in-Until g c =
     let d = c.args.day in
     let x = c.args.x in
     let old = c.args.strip.now in
-    let s = c.show-until in
+    let s = c.show_until in
     let put = subst (λ (k : ℕ). Put (trace m (λ e f. says_yes (finding_in book k m l e x) && after e f) (λ e. says_yes (finding_in book k m r e x)) (λ e. finding_in book k m i e x) true (number (finding_in book k m i d x)) d) old s.new.strip s.result) c.count-points.ensures s.ensures in
     subst (λ (k : Kind). Put (kind_trail n leads m after k (finding_in book n m) l r i d x) old s.new.strip s.result) (sym c.in-Until.is) put
 
@@ -54,6 +54,6 @@ returns-in-Awaited g c =
     let d = c.args.day in
     let x = c.args.x in
     let old = c.args.strip.now in
-    let s = c.show-future in
+    let s = c.show_future in
     let put = subst (λ (k : ℕ). Put (days_round m after (λ e. finding_in book k m i e x) (λ e. finding_in book k m l e x) d) old s.new.strip s.result) c.count-points.ensures s.ensures in
     subst (λ (k : Kind). Put (kind_trail n leads m after k (finding_in book n m) l r i d x) old s.new.strip s.result) (sym c.in-Awaited.is) put

@@ -8,27 +8,27 @@ use Rattle.engine.specs.Strips.{Put}
 use Rattle.engine.proofs.KindsShown.{line_fits, column_word, days_same}
 use Rattle.engine.proofs.kinds_shown.show_until.Goals as goal
 
-pub read-answers-left-days-requires : goal.read-answers-left-days-requires
-read-answers-left-days-requires g c =
+pub read_answers-left_days-requires : goal.read_answers-left_days-requires
+read_answers-left_days-requires g c =
     let m = g.C.Floor.points c.args.calendar.now in
     let n = c.args.points in
     let s = ap (λ (k : ℕ). c.args.left * (k * n) + k * n) c.count-days.ensures in
     let fits = line_fits c.args.left c.args.i (m * n) (length c.args.findings.now) (omega arith) (omega arith) in
     (omega arith, (omega arith, (omega arith, omega arith)))
 
-pub read-answers-right-days-requires : goal.read-answers-right-days-requires
-read-answers-right-days-requires g c =
+pub read_answers-right_days-requires : goal.read_answers-right_days-requires
+read_answers-right_days-requires g c =
     let m = g.C.Floor.points c.args.calendar.now in
     let n = c.args.points in
     let s = ap (λ (k : ℕ). c.args.right * (k * n) + k * n) c.count-days.ensures in
     let fits = line_fits c.args.right c.args.i (m * n) (length c.args.findings.now) (omega arith) (omega arith) in
     (omega arith, (omega arith, (omega arith, omega arith)))
 
-pub show-days-requires : goal.show-days-requires
-show-days-requires g c =
+pub show_days-requires : goal.show_days-requires
+show_days-requires g c =
     let m = g.C.Floor.points c.args.calendar.now in
     let d = c.args.day in
-    let own = ap number (c.read-column-own.ensures d (omega arith) ∙ column_word c.args.findings.now c.args.points m c.count-days.result c.args.i d c.args.x c.count-days.ensures) in
+    let own = ap number (c.read_column-own.ensures d (omega arith) ∙ column_word c.args.findings.now c.args.points m c.count-days.result c.args.i d c.args.x c.count-days.ensures) in
     (omega arith, (omega arith, omega arith))
 
 pub returns : goal.returns
@@ -41,8 +41,8 @@ returns g c =
     let column : ℕ → ℕ → ℕ = λ l e. finding_in book n m l e x in
     let named : (l e : ℕ) → get_or book (l * (c.count-days.result * n) + (e * n + x)) 0 ≡ column l e = λ l e. column_word book n m c.count-days.result l e x c.count-days.ensures in
     let answer : ℕ → ℕ → Bool = λ l e. says_yes (column l e) in
-    let same = days_same m after (bit c.read-answers-left-days.result) (bit c.read-answers-right-days.result) (answer c.args.left) (answer c.args.right) (at c.read-column-own.result) (column c.args.i)
-    (λ e h. c.read-answers-left-days.ensures e (omega arith) ∙ ap says_yes (named c.args.left e))
-    (λ e h. c.read-answers-right-days.ensures e (omega arith) ∙ ap says_yes (named c.args.right e))
-    (λ e h. c.read-column-own.ensures e (omega arith) ∙ named c.args.i e) c.args.day (omega arith) in
-    subst (λ (o : Option (List ℕ)). Put o c.args.strip.now c.show-days.new.strip c.show-days.result) same c.show-days.ensures
+    let same = days_same m after (bit c.read_answers-left_days.result) (bit c.read_answers-right_days.result) (answer c.args.left) (answer c.args.right) (at c.read_column-own.result) (column c.args.i)
+    (λ e h. c.read_answers-left_days.ensures e (omega arith) ∙ ap says_yes (named c.args.left e))
+    (λ e h. c.read_answers-right_days.ensures e (omega arith) ∙ ap says_yes (named c.args.right e))
+    (λ e h. c.read_column-own.ensures e (omega arith) ∙ named c.args.i e) c.args.day (omega arith) in
+    subst (λ (o : Option (List ℕ)). Put o c.args.strip.now c.show_days.new.strip c.show_days.result) same c.show_days.ensures

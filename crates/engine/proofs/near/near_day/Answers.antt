@@ -18,18 +18,18 @@ loop-x-preserved g c =
     let before : ℕ → Bool = λ y. says_yes (get_or old (c.args.left + y) 0) in
     let now : ℕ → Bool = λ y. says_yes (get_or new (c.args.left + y) 0) in
     let same = near_same n leads now before (λ y h. ap says_yes (c.loop-x.invariant.others (c.args.left + y) (inl (omega arith)))) c.loop-x.x (omega arith) in
-    written_more c.args.base c.loop-x.x c.near-word.result (near_word n leads before) old new (omega arith) (c.near-word.ensures ∙ same) c.loop-x.invariant
+    written_more c.args.base c.loop-x.x c.near_word.result (near_word n leads before) old new (omega arith) (c.near_word.ensures ∙ same) c.loop-x.invariant
 
-pub returns-then-not-has-yes : goal.returns-then-not-has-yes
-returns-then-not-has-yes g c =
+pub returns-then-not-has_yes : goal.returns-then-not-has_yes
+returns-then-not-has_yes g c =
     let f = c.args.floor.now in
     let n = g.F.Floor.points f in
     let leads = g.F.Floor.leads f in
     let old = c.args.findings.now in
     let left : ℕ → Bool = λ y. says_yes (get_or old (c.args.left + y) 0) in
     let is : c.count-points.result ≡ n = c.count-points.ensures in
-    let none : any n left ≡ false = ap (λ k. any k left) (sym is) ∙ sym c.if-not-has-yes.ensures in
+    let none : any n left ≡ false = ap (λ k. any k left) (sym is) ∙ sym c.if-not-has_yes.ensures in
     let nowhere : (y : ℕ) → y < n → left y ≡ false = any_none n left none in
-    written_same c.args.base n (λ _. 0) (near_word n leads left) old c.fill-with.new.findings
+    written_same c.args.base n (λ _. 0) (near_word n leads left) old c.fill_with.new.findings
     (λ x h. near_nowhere n leads left x (nowhere x h) (λ y l _. nowhere y l))
-    (subst (λ (k : ℕ). Written c.args.base k (λ _. 0) old c.fill-with.new.findings) is c.fill-with.ensures)
+    (subst (λ (k : ℕ). Written c.args.base k (λ _. 0) old c.fill_with.new.findings) is c.fill_with.ensures)

@@ -18,4 +18,4 @@ loop-x-preserved g c =
     let new = c.loop-x.findings in
     let same = next_same m after (λ e. says_yes (get_or new (left + (e * n + x)) 0)) c.args.d (λ e. says_yes (get_or old (left + (e * n + x)) 0))
     (λ e h. let fits = day_fits e m n h in ap says_yes (c.loop-x.invariant.others (left + (e * n + x)) (inl (omega arith)))) in
-    written_more c.args.base x c.next-word.result (λ x. next_word m after (λ e. says_yes (get_or old (left + (e * n + x)) 0)) c.args.d) old new (omega arith) (c.next-word.ensures ∙ same) c.loop-x.invariant
+    written_more c.args.base x c.next_word.result (λ x. next_word m after (λ e. says_yes (get_or old (left + (e * n + x)) 0)) c.args.d) old new (omega arith) (c.next_word.ensures ∙ same) c.loop-x.invariant

@@ -7,11 +7,11 @@ returns-in-Some g c =
     let k = c.args.numbers in
     let f = c.args.floor.now in
     let h = c.args.calendar.now in
-    shown_so k.points k.days k.lines (g.F.Floor.points f) (g.F.Floor.leads f) (g.C.Floor.points h) (g.C.Floor.leads h) c.args.lines.now c.args.findings.now c.args.at.line c.args.at.day c.args.at.point c.args.strip.now c.requires c.show-row.new.strip c.in-Some.count c.in-Some.ensures
+    shown_so k.points k.days k.lines (g.F.Floor.points f) (g.F.Floor.leads f) (g.C.Floor.points h) (g.C.Floor.leads h) c.args.lines.now c.args.findings.now c.args.at.line c.args.at.day c.args.at.point c.args.strip.now c.requires c.show_row.new.strip c.in-Some.count c.in-Some.ensures
 
 pub returns-in-None : goal.returns-in-None
 returns-in-None g c =
     let k = c.args.numbers in
     let f = c.args.floor.now in
     let h = c.args.calendar.now in
-    fails_so k.points k.days k.lines (g.F.Floor.points f) (g.F.Floor.leads f) (g.C.Floor.points h) (g.C.Floor.leads h) c.args.lines.now c.args.findings.now c.args.at.line c.args.at.day c.args.at.point c.args.strip.now c.requires c.show-row.new.strip c.in-None.ensures
+    fails_so k.points k.days k.lines (g.F.Floor.points f) (g.F.Floor.leads f) (g.C.Floor.points h) (g.C.Floor.leads h) c.args.lines.now c.args.findings.now c.args.at.line c.args.at.day c.args.at.point c.args.strip.now c.requires c.show_row.new.strip c.in-None.ensures

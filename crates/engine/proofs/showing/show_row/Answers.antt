@@ -11,8 +11,8 @@ use Rattle.engine.proofs.Filled.{day_fits}
 use Rattle.engine.proofs.ShowRefusals.{ToShow, to_show}
 use Rattle.engine.proofs.showing.show_row.Goals as goal
 
-pub show-kind-requires : goal.show-kind-requires
-show-kind-requires g c =
+pub show_kind-requires : goal.show_kind-requires
+show_kind-requires g c =
     let n = g.F.Floor.points c.args.floor.now in
     let m = g.C.Floor.points c.args.calendar.now in
     let k = c.args.numbers in
@@ -48,7 +48,7 @@ returns g c =
     let x = c.args.at.point in
     let old = c.args.strip.now in
     let o = to_show k.points k.days k.lines n m lines (length book) i d x (finding_in book k.points k.days i d x) (length old) c.requires in
-    let s = c.show-kind in
+    let s = c.show_kind in
     let line = line_at lines i in
     let put = subst₂ (λ (a b : ℕ). Put (kind_trail a leads b after c.in-Some.row.kind (finding_in book a b) line.left line.right i d x) old s.new.strip s.result) o.floor o.calendar s.ensures in
     subst (λ (q : Option KindRow). Put (row_trail k.points leads k.days after q (finding_in book k.points k.days) line i d x) old s.new.strip s.result) c.in-Some.ensures put

@@ -6,8 +6,8 @@ use Rattle.engine.proofs.Filled.{day_more, day_fits}
 use Rattle.engine.proofs.WaysFilled.{surrounded_same}
 use Rattle.engine.proofs.surrounded.fill_surrounded.Goals as goal
 
-pub surrounded-day-requires : goal.surrounded-day-requires
-surrounded-day-requires g c =
+pub surrounded_day-requires : goal.surrounded_day-requires
+surrounded_day-requires g c =
     let n = g.F.Floor.points c.args.floor.now in
     let d = c.loop-d.d in
     let fits = day_fits d c.args.days n c.loop-d-test.true in
@@ -21,7 +21,7 @@ loop-d-preserved g c =
     let leads = g.F.Floor.leads f in
     let old = c.args.findings.now in
     let mid = c.loop-d.findings in
-    let new = c.surrounded-day.new.findings in
+    let new = c.surrounded_day.new.findings in
     let d = c.loop-d.d in
     let l = c.args.left in
     let r = c.args.right in
@@ -29,7 +29,7 @@ loop-d-preserved g c =
     let row : ℕ → ℕ = surrounded_word n leads (λ y. says_yes (get_or mid (l + d * n + y) 0)) (λ y. says_yes (get_or mid (r + d * n + y) 0)) in
     let plane : Plane = λ d. surrounded_word n leads (λ y. says_yes (get_or old (l + (d * n + y)) 0)) (λ y. says_yes (get_or old (r + (d * n + y)) 0)) in
     let written : Written (c.args.base + d * n) n row mid new =
-    subst (λ (k : ℕ). Written (c.args.base + d * k) n (surrounded_word n leads (λ y. says_yes (get_or mid (l + d * k + y) 0)) (λ y. says_yes (get_or mid (r + d * k + y) 0))) mid new) c.count-points.ensures c.surrounded-day.ensures in
+    subst (λ (k : ℕ). Written (c.args.base + d * k) n (surrounded_word n leads (λ y. says_yes (get_or mid (l + d * k + y) 0)) (λ y. says_yes (get_or mid (r + d * k + y) 0))) mid new) c.count-points.ensures c.surrounded_day.ensures in
     let moved : (from y : ℕ) → from + (d * n + y) < c.args.base → says_yes (get_or mid (from + d * n + y) 0) ≡ says_yes (get_or old (from + (d * n + y)) 0) =
     λ from y h. let e : from + d * n + y ≡ from + (d * n + y) = omega arith in ap (λ i. says_yes (get_or mid i 0)) e ∙ ap says_yes (c.loop-d.invariant.others (from + (d * n + y)) (inl h)) in
     let same : (x : ℕ) → x < n → row x ≡ plane d x = surrounded_same n leads _ _ _ _ (λ y h. moved l y (omega arith)) (λ y h. moved r y (omega arith)) in

@@ -15,7 +15,7 @@ returns-in-default g c =
     let k = c.loop-k.k in
     let e : k ≡ suc (k - 1) = omega arith in
     let step = step_by (g.R.Rules.leave r) (g.F.Floor.leads f) (g.R.Rules.enter r) in
-    sym (c.loop-k.invariant ∙ breaks_off (g.F.Floor.points f) step (g.R.Rules.goal r) (at c.args.own.now) c.args.answer k (k - 1) c.loop-k.x c.word-of.result e c.word-of.ensures c.in-default.ensures)
+    sym (c.loop-k.invariant ∙ breaks_off (g.F.Floor.points f) step (g.R.Rules.goal r) (at c.args.own.now) c.args.answer k (k - 1) c.loop-k.x c.word_of.result e c.word_of.ensures c.in-default.ensures)
 
 pub loop-k-preserved : goal.loop-k-preserved
 loop-k-preserved g c =
@@ -24,7 +24,7 @@ loop-k-preserved g c =
     let k = c.loop-k.k in
     let e : k ≡ suc (k - 1) = omega arith in
     let step = step_by (g.R.Rules.leave r) (g.F.Floor.leads f) (g.R.Rules.enter r) in
-    c.loop-k.invariant ∙ holds_on (g.F.Floor.points f) step (g.R.Rules.goal r) (at c.args.own.now) c.args.answer k (k - 1) c.loop-k.x c.in-Some.y c.word-of.result e c.word-of.ensures c.in-Some.ensures
+    c.loop-k.invariant ∙ holds_on (g.F.Floor.points f) step (g.R.Rules.goal r) (at c.args.own.now) c.args.answer k (k - 1) c.loop-k.x c.in-Some.y c.word_of.result e c.word_of.ensures c.in-Some.ensures
 
 pub returns : goal.returns
 returns g c =
@@ -32,6 +32,6 @@ returns g c =
     let r = c.args.rules.now in
     let e : c.loop-k.k ≡ 0 = omega arith in
     let step = step_by (g.R.Rules.leave r) (g.F.Floor.leads f) (g.R.Rules.enter r) in
-    c.is-goal.ensures ∙ sym (ends (g.F.Floor.points f) step (g.R.Rules.goal r) (at c.args.own.now) c.args.answer c.loop-k.x)
+    c.is_goal.ensures ∙ sym (ends (g.F.Floor.points f) step (g.R.Rules.goal r) (at c.args.own.now) c.args.answer c.loop-k.x)
     ∙ sym (ap (λ (k : ℕ). is_some (trace (g.F.Floor.points f) step (g.R.Rules.goal r) (at c.args.own.now) c.args.answer k c.loop-k.x)) e)
     ∙ sym c.loop-k.invariant

@@ -13,5 +13,5 @@ returns g c =
     let own = c.args.own.now in
     record {
       count = sym (trace_counts (g.F.Floor.points f) step (g.R.Rules.goal r) (at own) c.args.answer (number (at own c.args.start)) c.args.start (sym c.if-not-holds.ensures));
-      strip = c.write-trace.ensures;
+      strip = c.write_trace.ensures;
     }

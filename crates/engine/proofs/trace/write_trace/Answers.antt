@@ -22,7 +22,7 @@ returns-in-default g c =
     let step = step_by (g.R.Rules.leave r) (g.F.Floor.leads f) (g.R.Rules.enter r) in
     let k = c.args.steps - l.i in
     let e : k ≡ suc (c.args.steps - 1 - l.i) = omega arith in
-    absurd (both_ways _ (breaks_off (g.F.Floor.points f) step (g.R.Rules.goal r) (at c.args.own.now) c.args.answer k (c.args.steps - 1 - l.i) l.x c.word-of.result e c.word-of.ensures c.in-default.ensures) l.invariant.found)
+    absurd (both_ways _ (breaks_off (g.F.Floor.points f) step (g.R.Rules.goal r) (at c.args.own.now) c.args.answer k (c.args.steps - 1 - l.i) l.x c.word_of.result e c.word_of.ensures c.in-default.ensures) l.invariant.found)
 
 pub loop-i-preserved : goal.loop-i-preserved
 loop-i-preserved g c =
@@ -34,7 +34,7 @@ loop-i-preserved g c =
     let j = c.args.steps - (l.i + 1) in
     let e : k ≡ suc j = omega arith in
     let same : c.args.steps - 1 - l.i ≡ j = omega arith in
-    to_come_less (g.F.Floor.points f) step (g.R.Rules.goal r) (at c.args.own.now) c.args.answer k j l.x c.in-Some.y c.word-of.result l.i _ l.strip e (c.word-of.ensures ∙ ap (λ (i : ℕ). word c.args.answer i) same) c.in-Some.ensures (omega arith) l.invariant
+    to_come_less (g.F.Floor.points f) step (g.R.Rules.goal r) (at c.args.own.now) c.args.answer k j l.x c.in-Some.y c.word_of.result l.i _ l.strip e (c.word_of.ensures ∙ ap (λ (i : ℕ). word c.args.answer i) same) c.in-Some.ensures (omega arith) l.invariant
 
 pub returns : goal.returns
 returns g c =

@@ -24,7 +24,7 @@ loop-x-preserved g c =
     let kept : (from e : ℕ) → e < m → from + (e * n + x) < c.args.base → says_yes (get_or mid (from + (e * n + x)) 0) ≡ says_yes (get_or old (from + (e * n + x)) 0) = λ from e h b. ap says_yes (c.loop-x.invariant.others (from + (e * n + x)) (inl b)) in
     let same = until_same m after (λ e. says_yes (get_or mid (l + (e * n + x)) 0)) (λ e. says_yes (get_or mid (r + (e * n + x)) 0)) (λ e. says_yes (get_or old (l + (e * n + x)) 0)) (λ e. says_yes (get_or old (r + (e * n + x)) 0))
     (λ e h. let fits = day_fits e m n h in kept l e h (omega arith)) (λ e h. let fits = day_fits e m n h in kept r e h (omega arith)) in
-    columns_more c.args.base n m x plane (until_word m after (λ e. says_yes (get_or mid (l + (e * n + x)) 0)) (λ e. says_yes (get_or mid (r + (e * n + x)) 0))) old mid c.until-point.new.findings (omega arith) same c.loop-x.invariant c.until-point.ensures
+    columns_more c.args.base n m x plane (until_word m after (λ e. says_yes (get_or mid (l + (e * n + x)) 0)) (λ e. says_yes (get_or mid (r + (e * n + x)) 0))) old mid c.until_point.new.findings (omega arith) same c.loop-x.invariant c.until_point.ensures
 
 pub returns : goal.returns
 returns g c =

@@ -4,8 +4,8 @@ use Rattle.model.proofs.Refusals.{in_order}
 use Rattle.examiner.proofs.Verdicts.{accepted, false_at}
 use Rattle.examiner.proofs.examination.examine_entries.Goals as goal
 
-pub false-line-requires : goal.false-line-requires
-false-line-requires g c =
+pub false_line-requires : goal.false_line-requires
+false_line-requires g c =
     let k = c.args.numbers in
     let o = in_order k.points k.days k.lines (g.F.Floor.points c.args.floor.now) (g.C.Floor.points c.args.calendar.now) (length c.args.readings.now) c.args.lines.now (length c.args.findings.now) c.requires in
     (o.floor, (o.calendar, omega arith))

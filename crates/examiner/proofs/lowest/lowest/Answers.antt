@@ -5,8 +5,8 @@ use Rattle.model.specs.Numbers.{lower_of}
 use Rattle.examiner.proofs.Neighbours.{lowest_more, lowest_over}
 use Rattle.examiner.proofs.lowest.lowest.Goals as goal
 
-pub number-of-requires : goal.number-of-requires
-number-of-requires g c = let few = g.met.F.Floor.few c.args.floor.now in omega (arith, c.in-Some.ensures.1)
+pub number_of-requires : goal.number_of-requires
+number_of-requires g c = let few = g.met.F.Floor.few c.args.floor.now in omega (arith, c.in-Some.ensures.1)
 
 pub loop-k-preserved : goal.loop-k-preserved
 loop-k-preserved g c =
@@ -14,7 +14,7 @@ loop-k-preserved g c =
     let counts : ℕ → Bool = g.C.Candidates.counts c.args.candidates.now in
     let number : ℕ → ℕ = g.C.Candidates.number c.args.candidates.now in
     let next = c.in-Some.ensures in
-    (omega arith, c.lower-best.ensures ∙ ap₂ lower_of c.loop-k.invariant.1 c.number-of.ensures ∙ sym (lowest_more row counts number c.loop-k.from c.in-Some.k next.0 next.2 next.3))
+    (omega arith, c.lower-best.ensures ∙ ap₂ lower_of c.loop-k.invariant.1 c.number_of.ensures ∙ sym (lowest_more row counts number c.loop-k.from c.in-Some.k next.0 next.2 next.3))
 
 pub returns : goal.returns
 returns g c =

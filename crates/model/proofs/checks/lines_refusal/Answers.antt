@@ -20,4 +20,4 @@ returns-in-Some c =
 
 pub loop-i-preserved : goal.loop-i-preserved
 loop-i-preserved c =
-    subst (λ (j : ℕ). lines_refusal c.args.lines.now j ≡ None) (sym (add-one c.loop-i.i)) (ap₂ or_else c.loop-i.invariant (sym c.in-default.ensures))
+    subst (λ (j : ℕ). lines_refusal c.args.lines.now j ≡ None) (sym (add-one c.loop-i.i)) (ap₂ or_else c.loop-i.invariant (sym c.in_default.ensures))

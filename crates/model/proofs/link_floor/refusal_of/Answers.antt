@@ -17,16 +17,16 @@ list-decides n pairs some few b decides =
 pub returns-then-count-eq0 : goal.returns-then-count-eq0
 returns-then-count-eq0 c = record { refusal = grind (arith, nat_tests); lawful = tt; reads = listed_by_a_pair c.args.pairs.now }
 
-pub returns-then-is-loose : goal.returns-then-is-loose
-returns-then-is-loose c = record {
-  refusal = list-decides c.args.count c.args.pairs.now c.if-count-eq0.false c.if-count-gt4096.false _ c.if-is-loose.ensures;
+pub returns-then-is_loose : goal.returns-then-is_loose
+returns-then-is_loose c = record {
+  refusal = list-decides c.args.count c.args.pairs.now c.if-count-eq0.false c.if-count-gt4096.false _ c.if-is_loose.ensures;
   lawful = tt;
   reads = listed_by_a_pair c.args.pairs.now;
 }
 
 pub returns : goal.returns
 returns c =
-    let tight = c.if-is-loose.ensures in
+    let tight = c.if-is_loose.ensures in
     record {
       refusal = list-decides c.args.count c.args.pairs.now c.if-count-eq0.false c.if-count-gt4096.false _ tight;
       lawful = (omega arith, omega arith, sym tight);

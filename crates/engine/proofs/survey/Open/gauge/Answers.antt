@@ -13,13 +13,13 @@ returns c =
     let old = a.readings.now in
     let t : SFits w32 a.tenths = c.ranges.tenths in
     let l : SFits w32 a.level = c.ranges.level in
-    let scale = simp to_z-of_z at c.in-Some-reading-of.ensures in
+    let scale = simp to_z-of_z at c.in-Some-reading_of.ensures in
     let granted : gauge_refusal n.points n.days (length old) a.day a.point a.atom a.tenths a.level ≡ None =
     ap₂ or_else (sym c.in-default.ensures) (ap (λ t. where_so (not t) OutOfRange) scale.0) in
     let new = recorded n.points a.day a.point a.atom (reaches_level a.tenths a.level) old in
     record {
       result = sym (ap (λ o. answer o tt) granted);
-      book = c.set-reading.ensures.book ∙ ap (λ v. recorded n.points a.day a.point a.atom v old) scale.1
+      book = c.set_reading.ensures.book ∙ ap (λ v. recorded n.points a.day a.point a.atom v old) scale.1
           ∙ sym (ap (λ o. unless_refused o new old) granted);
-      reading = subst (λ (v : Bool). SetsOneReading n.points n.days a.day a.point a.atom v old c.set-reading.new.readings) scale.1 c.set-reading.ensures.reading;
+      reading = subst (λ (v : Bool). SetsOneReading n.points n.days a.day a.point a.atom v old c.set_reading.new.readings) scale.1 c.set_reading.ensures.reading;
     }

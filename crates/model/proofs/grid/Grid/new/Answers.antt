@@ -10,8 +10,8 @@ returns-then-rows-gt4096 c =
     let cols = cols_below c.args.rows c.args.cols (omega arith) in
     record { refusal = grind (arith, nat_tests); rows = tt; cols = tt; reads = tt }
 
-pub invariant-of-result : goal.invariant-of-result
-invariant-of-result c =
+pub invariant_of-result : goal.invariant_of-result
+invariant_of-result c =
     let cols = cols_below c.args.rows c.args.cols (omega arith) in
     omega arith
 

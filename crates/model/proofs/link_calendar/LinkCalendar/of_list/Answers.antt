@@ -19,43 +19,41 @@ dead-end-decides n pairs masks some few tight links b ends =
     let size : (eqb n 0 || ltb 64 n) ≡ false = or_from _ _ (ne_eqb n 0 some) (le-ltb 64 n few) in
     rw (tight, size, ← dead_ends n pairs masks tight links few, ends) refl
 
-pub returns-then-is-loose : goal.returns-then-is-loose
-returns-then-is-loose c = record { refusal = rw (← c.if-is-loose.ensures) refl; days = tt; leads = tt; reads = listed_by_a_pair c.args.pairs.now }
+pub returns-then-is_loose : goal.returns-then-is_loose
+returns-then-is_loose c = record { refusal = rw (← c.if-is_loose.ensures) refl; days = tt; leads = tt; reads = listed_by_a_pair c.args.pairs.now }
 
 pub returns-then-days-eq0 : goal.returns-then-days-eq0
 returns-then-days-eq0 c =
     let size : (eqb c.args.days 0 || ltb 64 c.args.days) ≡ true = let e = c.then-days-eq0.either in grind (arith, nat_tests) in
-    record { refusal = rw (← c.if-is-loose.ensures, size) refl; days = tt; leads = tt; reads = listed_by_a_pair c.args.pairs.now }
+    record { refusal = rw (← c.if-is_loose.ensures, size) refl; days = tt; leads = tt; reads = listed_by_a_pair c.args.pairs.now }
 
-pub masks-of-requires : goal.masks-of-requires
-masks-of-requires c k h = omega (arith, all_below c.args.days c.args.pairs.now (sym c.if-is-loose.ensures) k h)
+pub masks_of-requires : goal.masks_of-requires
+masks_of-requires c k h = omega (arith, all_below c.args.days c.args.pairs.now (sym c.if-is_loose.ensures) k h)
 
-pub returns-then-has-dead-end : goal.returns-then-has-dead-end
-returns-then-has-dead-end c =
+pub returns-then-has_dead_end : goal.returns-then-has_dead_end
+returns-then-has_dead_end c =
     let refusal =
-    dead-end-decides c.args.days c.args.pairs.now c.masks-of.result.0 c.if-days-eq0.false c.if-days-gt64.false
-    (sym c.if-is-loose.ensures) c.masks-of.ensures.next true c.if-has-dead-end.ensures in
+    dead-end-decides c.args.days c.args.pairs.now c.masks_of.result.0 c.if-days-eq0.false c.if-days-gt64.false
+    (sym c.if-is_loose.ensures) c.masks_of.ensures.next true c.if-has_dead_end.ensures in
     record { refusal = refusal; days = tt; leads = tt; reads = listed_by_a_pair c.args.pairs.now }
 
-pub invariant-of-result : goal.invariant-of-result
-invariant-of-result c =
-    let next = c.masks-of.result.0 in
-    let links = c.masks-of.ensures.next in
-    let none = any_none c.args.days (λ d. not (any 64 (masked next d))) (sym c.if-has-dead-end.ensures) in (
-      omega arith,
-      (
-        omega arith,
-        (
-          masked_inside c.args.days c.args.pairs.now next (sym c.if-is-loose.ensures) links,
-          (λ d e. c.masks-of.ensures.prev d e ∙ sym (links e d), (λ d h. masked_low next d (not-false _ (none d h)), tt)),
-        ),
-      ),
-    )
+pub invariant_of-result : goal.invariant_of-result
+invariant_of-result c =
+    let next = c.masks_of.result.0 in
+    let links = c.masks_of.ensures.next in
+    let none = any_none c.args.days (λ d. not (any 64 (masked next d))) (sym c.if-has_dead_end.ensures) in
+    record {
+      some = omega arith;
+      few = omega arith;
+      inside = masked_inside c.args.days c.args.pairs.now next (sym c.if-is_loose.ensures) links;
+      back = λ d e. c.masks_of.ensures.prev d e ∙ sym (links e d);
+      onto = λ d h. masked_low next d (not-false _ (none d h));
+    }
 
 pub returns : goal.returns
 returns c =
-    let links = c.masks-of.ensures.next in
+    let links = c.masks_of.ensures.next in
     let refusal =
-    dead-end-decides c.args.days c.args.pairs.now c.masks-of.result.0 c.if-days-eq0.false c.if-days-gt64.false
-    (sym c.if-is-loose.ensures) links false c.if-has-dead-end.ensures in
+    dead-end-decides c.args.days c.args.pairs.now c.masks_of.result.0 c.if-days-eq0.false c.if-days-gt64.false
+    (sym c.if-is_loose.ensures) links false c.if-has_dead_end.ensures in
     record { refusal = refusal; days = refl; leads = links; reads = listed_by_a_pair c.args.pairs.now }
