@@ -34,4 +34,4 @@ pub returns : goal.returns
 returns g c =
     let calendar = c.args.calendar.now in
     let l = c.loop-e in
-    next_all (g.C.Floor.points calendar) (g.C.Floor.leads calendar) c.args.waits.now c.args.d l.from l.highest l.invariant.0 c.in-default.ensures l.invariant.2 l.invariant.3
+    next_all (g.C.Floor.points calendar) (g.C.Floor.leads calendar) c.args.waits.now c.args.d l.from l.highest l.invariant.0 c.in_default.ensures l.invariant.2 l.invariant.3

@@ -30,13 +30,13 @@ returns-then-is_yes g c =
     let l = c.loop-i in
     going_awaited m next awaited c.args.start l.i l.days l.d (omega arith) (omega arith) l.invariant c.if-stands_in.ensures c.if-is_yes.ensures
 
-pub returns-in-default : goal.returns-in-default
-returns-in-default g c =
+pub returns-in_default : goal.returns-in_default
+returns-in_default g c =
     let m = g.C.Floor.points c.args.calendar.now in
     let next : ℕ → Option ℕ = next_no m (g.C.Floor.leads c.args.calendar.now) (at c.args.own.now) in
     let awaited : ℕ → Bool = λ e. says_yes (at c.args.left.now e) in
     let l = c.loop-i in
-    going_nowhere m next awaited c.args.start l.i l.days l.d (omega arith) (omega arith) l.invariant c.if-stands_in.ensures c.if-is_yes.ensures c.in-default.ensures
+    going_nowhere m next awaited c.args.start l.i l.days l.d (omega arith) (omega arith) l.invariant c.if-stands_in.ensures c.if-is_yes.ensures c.in_default.ensures
 
 pub loop-i-preserved : goal.loop-i-preserved
 loop-i-preserved g c =

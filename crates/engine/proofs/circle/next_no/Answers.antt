@@ -15,4 +15,4 @@ pub returns : goal.returns
 returns g c =
     let f = c.args.calendar.now in
     let pass : ℕ → Bool = λ e. not (says_yes (at c.args.own.now e)) in
-    none_passes (g.C.Floor.points f) (g.C.Floor.leads f c.args.d) pass c.loop-e.from c.loop-e.invariant c.in-default.ensures
+    none_passes (g.C.Floor.points f) (g.C.Floor.leads f c.args.d) pass c.loop-e.from c.loop-e.invariant c.in_default.ensures

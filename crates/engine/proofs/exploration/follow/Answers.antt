@@ -26,5 +26,6 @@ returns-else-tail-most g c =
     let step = step_by leave leads enter in
     let goal = g.R.Rules.goal c.args.rules.now in
     let left_first : (x y : ℕ) → step x y ≡ true → leave x ≡ true = λ x y s. (and_parts (leave x) _ s).0 in
+    let most = rw c.count.ensures at c.most_reached-most.ensures in
     let state = all_reached n step leave goal left_first l.head l.tail (at l.steps) (at l.queue) l.invariant.0 (omega arith) in
     record { shortest = shortest n step goal l.tail (at l.steps) (at l.queue) state; rest = l.invariant.1 }

@@ -57,8 +57,8 @@ loop-x-preserved g c =
           rw (w.tail-is, w.steps-is, w.queue-is) (skip old, l.invariant.1)
     ]
 
-pub returns-in-default : goal.returns-in-default
-returns-in-default g c =
+pub returns-in_default : goal.returns-in_default
+returns-in_default g c =
     let l = c.loop-x in
     let floor = c.args.floor.now in
     let rules = c.args.rules.now in
@@ -68,6 +68,6 @@ returns-in-default g c =
     let y = get_or c.args.queue.now c.args.head 0 in
     record {
       state = enter_end (g.F.Floor.points floor) (step_by leave leads enter) (g.R.Rules.goal rules) (at l.steps) (at l.queue) c.args.head l.tail y _ l.from l.invariant.0
-          (λ x h b. not_led leave leads enter x y (c.in-default.ensures x h b));
+          (λ x h b. not_led leave leads enter x y (c.in_default.ensures x h b));
       rest = l.invariant.1;
     }

@@ -34,8 +34,8 @@ loop-i-preserved g c =
       (λ k h. c.fill_kind.ensures.others k (inr (omega (arith, add-mul i 1 (m * n), one-mul (m * n)))) ∙ c.loop-i.invariant.1 k (omega (arith, add-mul i 1 (m * n), one-mul (m * n)))),
     )
 
-pub loop-i-preserved-in-default : goal.loop-i-preserved-in-default
-loop-i-preserved-in-default g c =
+pub loop-i-preserved-in_default : goal.loop-i-preserved-in_default
+loop-i-preserved-in_default g c =
     let i = c.loop-i.i in
     let line = line_at c.args.lines.now i in
-    absurd (both_ways false refl (subst (λ (o : Option KindRow). row_ok o i line ≡ true) (sym c.in-default.ensures) (c.requires.lawful i c.loop-i-test.true)))
+    absurd (both_ways false refl (subst (λ (o : Option KindRow). row_ok o i line ≡ true) (sym c.in_default.ensures) (c.requires.lawful i c.loop-i-test.true)))

@@ -3,8 +3,8 @@ use Rattle.std.proofs.lemmas.List.Edits.{length-between, get_or-between}
 use Rattle.engine.proofs.KindsShown.{row_fits}
 use Rattle.engine.proofs.kinds_shown.day_words.Goals as goal
 
-pub slice-bounds-result-end : goal.slice-bounds-result-end
-slice-bounds-result-end c =
+pub slice_bounds-result-end : goal.slice_bounds-result-end
+slice_bounds-result-end c =
     let fits = row_fits c.args.line c.args.days c.args.day c.args.points (length c.args.findings.now) (omega arith) (omega arith) in
     search rules
 

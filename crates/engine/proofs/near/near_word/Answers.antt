@@ -17,4 +17,4 @@ returns g c =
     let f = c.args.floor.now in
     let left : ℕ → Bool = λ y. says_yes (get_or c.args.findings.now (c.args.left + y) 0) in
     near_nowhere (g.F.Floor.points f) (g.F.Floor.leads f) left c.args.x (ne_eqb _ 1 c.if-findings-left-eq1.false)
-    (λ y h l. ⊎_elim (λ (b : y < c.loop-y.from). c.loop-y.invariant y b l) (λ (b : c.loop-y.from ≤ y). absurd (both_ways _ (c.in-default.ensures y b h) l)) (cases_lt y c.loop-y.from))
+    (λ y h l. ⊎_elim (λ (b : y < c.loop-y.from). c.loop-y.invariant y b l) (λ (b : c.loop-y.from ≤ y). absurd (both_ways _ (c.in_default.ensures y b h) l)) (cases_lt y c.loop-y.from))

@@ -24,4 +24,4 @@ returns g c =
     let f = c.args.calendar.now in
     let left : ℕ → Bool = λ e. says_yes (get_or c.args.findings.now (c.args.left + (e * c.args.points + c.args.x)) 0) in
     next_nowhere (g.C.Floor.points f) (g.C.Floor.leads f) left c.args.d
-    (λ e h a. ⊎_elim (λ (b : e < c.loop-e.from). c.loop-e.invariant e b a) (λ (b : c.loop-e.from ≤ e). absurd (both_ways _ (c.in-default.ensures e b h) a)) (cases_lt e c.loop-e.from))
+    (λ e h a. ⊎_elim (λ (b : e < c.loop-e.from). c.loop-e.invariant e b a) (λ (b : c.loop-e.from ≤ e). absurd (both_ways _ (c.in_default.ensures e b h) a)) (cases_lt e c.loop-e.from))

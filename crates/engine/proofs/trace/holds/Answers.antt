@@ -8,14 +8,14 @@ use Rattle.engine.proofs.trace.holds.Goals as goal
 pub loop-k-init : goal.loop-k-init
 loop-k-init g c = refl
 
-pub returns-in-default : goal.returns-in-default
-returns-in-default g c =
+pub returns-in_default : goal.returns-in_default
+returns-in_default g c =
     let f = c.args.floor.now in
     let r = c.args.rules.now in
     let k = c.loop-k.k in
     let e : k ≡ suc (k - 1) = omega arith in
     let step = step_by (g.R.Rules.leave r) (g.F.Floor.leads f) (g.R.Rules.enter r) in
-    sym (c.loop-k.invariant ∙ breaks_off (g.F.Floor.points f) step (g.R.Rules.goal r) (at c.args.own.now) c.args.answer k (k - 1) c.loop-k.x c.word_of.result e c.word_of.ensures c.in-default.ensures)
+    sym (c.loop-k.invariant ∙ breaks_off (g.F.Floor.points f) step (g.R.Rules.goal r) (at c.args.own.now) c.args.answer k (k - 1) c.loop-k.x c.word_of.result e c.word_of.ensures c.in_default.ensures)
 
 pub loop-k-preserved : goal.loop-k-preserved
 loop-k-preserved g c =

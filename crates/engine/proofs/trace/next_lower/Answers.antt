@@ -27,5 +27,5 @@ returns g c =
     let n = g.F.Floor.points f in
     let x = c.args.x in
     let pass : ℕ → Bool = λ z. g.R.Rules.enter r z && eqb (at c.args.own.now z) c.args.wanted in
-    none_passes n (g.F.Floor.leads f x) pass c.loop-y.from c.loop-y.invariant c.in-default.ensures
+    none_passes n (g.F.Floor.leads f x) pass c.loop-y.from c.loop-y.invariant c.in_default.ensures
     ∙ as_steps n (g.R.Rules.leave r) (g.R.Rules.enter r) (g.F.Floor.leads f) (at c.args.own.now) x c.args.wanted (sym c.if-not-may_leave.ensures)

@@ -14,15 +14,15 @@ loop-i-init g c =
     let step = step_by (g.R.Rules.leave r) (g.F.Floor.leads f) (g.R.Rules.enter r) in
     to_come_all (g.F.Floor.points f) step (g.R.Rules.goal r) (at c.args.own.now) c.args.answer c.args.steps c.args.start c.args.strip.now (omega arith) c.requires.found
 
-pub returns-in-default : goal.returns-in-default
-returns-in-default g c =
+pub returns-in_default : goal.returns-in_default
+returns-in_default g c =
     let f = c.args.floor.now in
     let r = c.args.rules.now in
     let l = c.loop-i in
     let step = step_by (g.R.Rules.leave r) (g.F.Floor.leads f) (g.R.Rules.enter r) in
     let k = c.args.steps - l.i in
     let e : k ≡ suc (c.args.steps - 1 - l.i) = omega arith in
-    absurd (both_ways _ (breaks_off (g.F.Floor.points f) step (g.R.Rules.goal r) (at c.args.own.now) c.args.answer k (c.args.steps - 1 - l.i) l.x c.word_of.result e c.word_of.ensures c.in-default.ensures) l.invariant.found)
+    absurd (both_ways _ (breaks_off (g.F.Floor.points f) step (g.R.Rules.goal r) (at c.args.own.now) c.args.answer k (c.args.steps - 1 - l.i) l.x c.word_of.result e c.word_of.ensures c.in_default.ensures) l.invariant.found)
 
 pub loop-i-preserved : goal.loop-i-preserved
 loop-i-preserved g c =

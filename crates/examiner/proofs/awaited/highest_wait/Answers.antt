@@ -33,6 +33,6 @@ returns g c =
     let m = c.args.numbers.days in
     let row : ℕ → Bool = g.C.Floor.leads c.args.calendar.now c.args.d in
     let own : ℕ → ℕ = λ e. finding_in c.args.findings.now c.args.numbers.points m c.args.own e c.args.x in
-    let rest : (e : ℕ) → c.loop-e.from ≤ e → e < m → row e ≡ false = λ e h l. c.in-default.ensures e h (omega arith) in
+    let rest : (e : ℕ) → c.loop-e.from ≤ e → e < m → row e ≡ false = λ e h l. c.in_default.ensures e h (omega arith) in
     ap Some (c.loop-e.invariant.1 ∙ sym (highest_over c.loop-e.from m row (λ e. number (own e)) (omega arith) rest))
     ∙ waits_met m row (λ e. says_yes (own e)) (λ e. number (own e)) (all_met m row (λ e. says_yes (own e) ≡ true) c.loop-e.from c.loop-e.invariant.2 rest)

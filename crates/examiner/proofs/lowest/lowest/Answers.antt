@@ -21,4 +21,4 @@ returns g c =
     let row : ℕ → Bool = g.F.Floor.leads c.args.floor.now c.args.p in
     let counts : ℕ → Bool = g.C.Candidates.counts c.args.candidates.now in
     let number : ℕ → ℕ = g.C.Candidates.number c.args.candidates.now in
-    c.loop-k.invariant.1 ∙ sym (lowest_over c.loop-k.from (g.F.Floor.points c.args.floor.now) _ number c.loop-k.invariant.0 (λ k h l. and_left (row k) (counts k) (c.in-default.ensures k h l)))
+    c.loop-k.invariant.1 ∙ sym (lowest_over c.loop-k.from (g.F.Floor.points c.args.floor.now) _ number c.loop-k.invariant.0 (λ k h l. and_left (row k) (counts k) (c.in_default.ensures k h l)))

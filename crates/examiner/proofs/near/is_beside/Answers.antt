@@ -18,4 +18,4 @@ returns g c =
     let n = c.args.numbers.points in
     let row : ℕ → Bool = λ y. g.F.Floor.leads c.args.floor.now y c.args.x in
     let left : ℕ → Bool = λ y. says_yes (finding_in c.args.findings.now n c.args.numbers.days c.args.left c.args.d y) in
-    none_met n row left (all_met n row (λ y. left y ≡ false) c.loop-y.from c.loop-y.invariant (λ y h l. c.in-default.ensures y h (omega arith)))
+    none_met n row left (all_met n row (λ y. left y ≡ false) c.loop-y.from c.loop-y.invariant (λ y h l. c.in_default.ensures y h (omega arith)))

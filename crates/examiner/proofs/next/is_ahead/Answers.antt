@@ -18,4 +18,4 @@ returns g c =
     let m = c.args.numbers.days in
     let row : ℕ → Bool = g.C.Floor.leads c.args.calendar.now c.args.d in
     let left : ℕ → Bool = λ e. says_yes (finding_in c.args.findings.now c.args.numbers.points m c.args.left e c.args.x) in
-    none_met m row left (all_met m row (λ e. left e ≡ false) c.loop-e.from c.loop-e.invariant (λ e h l. c.in-default.ensures e h (omega arith)))
+    none_met m row left (all_met m row (λ e. left e ≡ false) c.loop-e.from c.loop-e.invariant (λ e h l. c.in_default.ensures e h (omega arith)))

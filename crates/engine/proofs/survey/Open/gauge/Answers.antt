@@ -15,7 +15,7 @@ returns c =
     let l : SFits w32 a.level = c.ranges.level in
     let scale = simp to_z-of_z at c.in-Some-reading_of.ensures in
     let granted : gauge_refusal n.points n.days (length old) a.day a.point a.atom a.tenths a.level ≡ None =
-    ap₂ or_else (sym c.in-default.ensures) (ap (λ t. where_so (not t) OutOfRange) scale.0) in
+    ap₂ or_else (sym c.in_default.ensures) (ap (λ t. where_so (not t) OutOfRange) scale.0) in
     let new = recorded n.points a.day a.point a.atom (reaches_level a.tenths a.level) old in
     record {
       result = sym (ap (λ o. answer o tt) granted);
