@@ -1,10 +1,9 @@
 -- Why an exploration backwards from the goals finds the shortest ways: each of its moves keeps what is known, and at the end nothing is missing.
-use Rattle.std.proofs.Common.{◌≡◌, ℕ, zero, suc, ◌+◌, ◌<◌, ◌≤◌, Bool, true, false, cond, ◌&&◌, ◌||◌, eqb, ◌≢◌, ◌⊎◌, List, length, get_or, set, Some, None, Option, unwrap_or, sym, refl, ap, ◌∙◌, subst, ap₂, inl, inr, ⊎_elim, add-one, arith}
+use Rattle.std.proofs.Common.{◌≡◌, ℕ, zero, suc, ◌+◌, ◌<◌, ◌≤◌, Bool, true, false, cond, eqb, ◌≢◌, ◌⊎◌, List, length, set, Some, None, Option, unwrap_or, sym, refl, ap, ◌∙◌, subst, inl, inr, ⊎_elim, add-one, arith}
 use Rattle.std.proofs.lemmas.List.{get_or-set_same, get_or-set_other}
-use Rattle.std.proofs.lemmas.Bool.{cases_eq, cases_lt, cases_Bool, both_ways, eq-eqb, ne_eqb, and_from, and_left, and_right}
-use Rattle.model.specs.Numbers.{tally, least, or_later}
+use Rattle.std.proofs.lemmas.Bool.{cases_eq, cases_lt, both_ways, eq-eqb, ne_eqb, and_from, and_left, and_right}
+use Rattle.model.specs.Numbers.{tally}
 use Rattle.model.specs.Table.{reaches, rank}
-use Rattle.model.proofs.Numbers.{any_same}
 use Rattle.model.proofs.Ranks.{reaches_step, reaches_by, rank_from, rank_reaches, no_rank}
 use Rattle.engine.specs.Exploring.{step_by, at, Explored}
 

@@ -1,7 +1,7 @@
 -- What is shown by words that were read off a book is what is shown by the book's own words.
-use Rattle.std.proofs.Common.{◌≡◌, ℕ, suc, ◌+◌, ◌*◌, ◌<◌, ◌≤◌, Bool, true, false, not, ◌&&◌, List, [], get_or, Some, None, Option, sym, refl, ap, ◌∙◌, ap₂, mul_assoc, add-mul, arith}
+use Rattle.std.proofs.Common.{◌≡◌, ℕ, suc, ◌+◌, ◌*◌, ◌<◌, ◌≤◌, Bool, true, false, not, ◌&&◌, List, [], get_or, refl, ap, ◌∙◌, ap₂, mul_assoc, add-mul, arith}
 use Rattle.model.specs.Books.{finding_in}
-use Rattle.model.specs.Showing.{trace, circle}
+use Rattle.model.specs.Showing.{trace}
 use Rattle.model.specs.Table.{says_yes, number}
 use Rattle.model.proofs.Levels.{least_found}
 use Rattle.model.proofs.Solution.{least_same}

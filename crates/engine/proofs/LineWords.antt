@@ -1,12 +1,10 @@
 -- What the fillings of each kind write is what the table has of that kind, over the words of the book.
-use Rattle.std.proofs.Common.{◌≡◌, ℕ, ◌+◌, ◌*◌, ◌/◌, ◌%◌, ◌<◌, ◌≤◌, Bool, true, false, not, ◌&&◌, ◌||◌, List, get_or, sym, refl, ap, ◌∙◌, ap₂, mul_assoc, add-mul, arith}
+use Rattle.std.proofs.Common.{◌≡◌, ℕ, ◌+◌, ◌*◌, ◌/◌, ◌%◌, Bool, not, ◌||◌, List, get_or, sym, ap, ◌∙◌, ap₂, mul_assoc, add-mul, arith}
 use mathlib.Core.Path.{fun_ext}
 use Rattle.std.proofs.lemmas.Nat.{div-add-mod'}
-use Rattle.model.specs.declared.kind.Kind.TheVariants.{Truth, Reading, Not, Or, Near, Surrounded, Next, Until, Awaited}
+use Rattle.model.specs.declared.kind.Kind.TheVariants.{Reading, Not, Or, Near, Surrounded, Next, Until, Awaited}
 use Rattle.model.specs.Books.{finding_in, model_of}
-use Rattle.model.specs.Logic.{Model}
 use Rattle.model.specs.Masks.{bit}
-use Rattle.model.specs.Numbers.{any}
 use Rattle.model.specs.Table.{word, says_yes, near_word, surrounded_word, until_word, awaited_word, kind_plane}
 use Rattle.engine.specs.Filling.{in_order, next_word}
 

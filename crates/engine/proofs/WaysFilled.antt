@@ -1,5 +1,5 @@
 -- The words of ways out and of beginnings, by the steps that the exploration finds.
-use Rattle.std.proofs.Common.{◌≡◌, ℕ, zero, suc, ◌<◌, ◌≤◌, Bool, true, false, cond, not, ◌&&◌, eqb, ◌⊎◌, List, Some, None, Option, unwrap_or, sym, refl, ap, ◌∙◌, ap₂, inl, inr, ⊎_elim, arith}
+use Rattle.std.proofs.Common.{◌≡◌, ℕ, zero, suc, ◌<◌, ◌≤◌, Bool, true, false, cond, not, ◌&&◌, eqb, ◌⊎◌, Some, None, Option, unwrap_or, sym, refl, ap, ◌∙◌, ap₂, inl, inr, ⊎_elim, arith}
 use Rattle.std.proofs.lemmas.Bool.{cases_Bool, both_ways, lt-ltb, le-ltb, ne_eqb}
 use Rattle.model.specs.Numbers.{least}
 use Rattle.model.specs.Table.{no_word, yes_word, rank, reaches, surrounded_word, until_word, sure, wait, awaited_word}

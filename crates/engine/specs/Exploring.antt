@@ -1,5 +1,5 @@
 -- Shortest ways: the steps that are allowed, and how far an exploration backwards from the goals has come.
-use Rattle.std.specs.Prelude.{◌≡◌, ℕ, ◌+◌, ◌<◌, ◌≤◌, Bool, true, false, ◌&&◌, List, nat_eq, slice_index}
+use Rattle.std.specs.Prelude.{◌≡◌, ℕ, ◌+◌, ◌<◌, ◌≤◌, Bool, true, ◌&&◌, List, nat_eq, slice_index}
 use Rattle.model.specs.Numbers.{tally}
 use Rattle.model.specs.Table.{reaches}
 

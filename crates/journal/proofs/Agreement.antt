@@ -1,12 +1,12 @@
 -- A ledger and a world agree: at the opening, and after each event that fits.
-use Rattle.std.proofs.Common.{◌≡◌, ℕ, zero, suc, ◌+◌, ◌*◌, ◌<◌, ◌≤◌, Bool, true, false, cond, not, ◌&&◌, eqb, ltb, leb, List, [], ◌∷◌, ◌++◌, length, get_or, set, Some, None, Option, sym, refl, ap, ◌∙◌, subst, ap₂, ⊎_elim, zero-add, arith, length-append, length-set}
+use Rattle.std.proofs.Common.{◌≡◌, ℕ, ◌+◌, ◌*◌, ◌<◌, ◌≤◌, Bool, true, false, cond, not, ◌&&◌, eqb, ltb, leb, List, [], ◌∷◌, ◌++◌, length, get_or, set, Some, None, Option, sym, refl, ap, ◌∙◌, subst, ap₂, ⊎_elim, zero-add, arith, length-append, length-set}
 use Rattle.std.proofs.lemmas.List.{get_or-set_same, get_or-set_other, get_or_append_left, get_or_push}
 use Rattle.std.proofs.lemmas.Bool.{cases_eq, both_ways, and_parts, or_parts, le-ltb, leb-false, ltb-true, ltb-false}
 use Rattle.model.specs.declared.line.Line.{Line}
 use Rattle.model.specs.declared.refusal.Refusal.{Refusal}
 use Rattle.model.specs.declared.refusal.Refusal.TheVariants.{CalendarSize, ShortBook, OutOfRange, LinesFull}
 use Rattle.model.specs.Books.{model_of, reading_in, BookHolds}
-use Rattle.model.specs.Calls.{unless_refused, open_refusal, on_map, record_refusal, recorded, on_scale, gauge_refusal, reaches_level, phrase_refusal}
+use Rattle.model.specs.Calls.{unless_refused, open_refusal, on_map, record_refusal, recorded, on_scale, reaches_level, phrase_refusal}
 use Rattle.model.specs.Kinds.{kind_row}
 use Rattle.model.specs.Lines.{line_at, line_ok, LawfulLines}
 use Rattle.model.specs.Refusals.{where_so, or_else, line_refusal, readings_short}

@@ -1,6 +1,6 @@
 -- Where a ledger and a world agree, the law of a survey's whole life holds.
-use Rattle.std.proofs.Common.{◌≡◌, ℕ, zero, suc, ◌+◌, ◌*◌, ◌<◌, ◌≤◌, Bool, true, false, not, ◌&&◌, ◌||◌, eqb, ltb, ◌↔◌, List, [], ◌∷◌, length, is_some, Some, None, Ok, Option, unwrap_or, sym, refl, ap, ◌∙◌, subst, ap₂, add-one, arith}
-use Rattle.std.proofs.lemmas.Bool.{both_ways, and_from, or_from, eq-eqb, ne_eqb, lt-ltb, le-ltb, not_from_false}
+use Rattle.std.proofs.Common.{◌≡◌, ℕ, suc, ◌*◌, ◌<◌, ◌≤◌, Bool, true, not, ◌↔◌, List, [], ◌∷◌, length, Some, None, Ok, Option, unwrap_or, sym, refl, ap, ◌∙◌, subst, ap₂, add-one, arith}
+use Rattle.std.proofs.lemmas.Bool.{and_from, or_from, eq-eqb, ne_eqb, lt-ltb, le-ltb}
 use Rattle.model.specs.declared.answers.Verdict.{Verdict}
 use Rattle.model.specs.declared.answers.Verdict.TheVariants.{Accepted, FalseAt, Refused}
 use Rattle.model.specs.declared.kind.Kind.TheVariants.{Surrounded, Awaited}
@@ -8,31 +8,31 @@ use Rattle.model.specs.declared.kind.KindRow.{KindRow}
 use Rattle.model.specs.declared.kind.Operand.TheVariants.{Unused, Lower}
 use Rattle.model.specs.declared.line.Line.{Line}
 use Rattle.model.specs.declared.refusal.Refusal.{Refusal}
-use Rattle.model.specs.declared.refusal.Refusal.TheVariants.{OtherCounts, ShortBook, OutOfRange, NoLines, NothingToShow, ShortStrip, FalseEntry}
-use Rattle.model.specs.Books.{model_of, reading_in, finding_in, BookHolds, BookObeys}
-use Rattle.model.specs.Calls.{answer, unless_refused, is_entry, ask_refusal, finding_of}
+use Rattle.model.specs.declared.refusal.Refusal.TheVariants.{OtherCounts, ShortBook, OutOfRange, NoLines, NothingToShow, ShortStrip}
+use Rattle.model.specs.Books.{model_of, reading_in, finding_in, BookHolds}
+use Rattle.model.specs.Calls.{answer, unless_refused, is_entry, finding_of}
 use Rattle.model.specs.Entries.{Holds}
-use Rattle.model.specs.Examining.{Examined, FirstFalse}
+use Rattle.model.specs.Examining.{Examined}
 use Rattle.model.specs.Kinds.{kind_row}
 use Rattle.model.specs.Lines.{line_at, line_ok, LawfulLines}
-use Rattle.model.specs.Logic.{Model, LawfulModel}
-use Rattle.model.specs.Refusals.{where_so, or_else, counts_refusal, lines_refusal, whole_refusal}
+use Rattle.model.specs.Logic.{LawfulModel}
+use Rattle.model.specs.Refusals.{where_so, or_else, whole_refusal}
 use Rattle.model.specs.Relations.{Inside, Unending}
-use Rattle.model.specs.Showing.{trail, row_trail, shows, strip_needed, row_show_refusal, show_refusal, written_on}
-use Rattle.model.specs.Table.{says_yes, number, Plane, kind_plane, surrounded_word, awaited_word, table}
+use Rattle.model.specs.Showing.{row_trail, shows, strip_needed, row_show_refusal, written_on}
+use Rattle.model.specs.Table.{says_yes, number, kind_plane, awaited_word, table}
 use Rattle.model.specs.Theorems.{SurroundedMeans, EveryFutureMeans}
-use Rattle.model.specs.Ways.{Walk, last_of, AfterFirst, WayOut, Circles}
+use Rattle.model.specs.Ways.{WayOut, Circles}
 use Rattle.model.proofs.Alike.{same_table}
 use Rattle.model.proofs.Circled.{awaited_shown}
 use Rattle.model.proofs.Futures.{every_future_law}
 use Rattle.model.proofs.Paths.{surrounded_law}
-use Rattle.model.proofs.Refusals.{InOrder, in_order, unless_lawful}
+use Rattle.model.proofs.Refusals.{in_order, unless_lawful}
 use Rattle.model.proofs.Solution.{one_solution, plane_same}
 use Rattle.model.proofs.Traces.{surrounded_shown}
 use Rattle.model.proofs.Unfolding.{Placed, operands_of, table_at}
-use Rattle.journal.specs.Law.{says, left_of, right_of, LeadsOut, awaits, SurroundedFinding, EveryFutureFinding, HoldsTheTable, WholeLife}
+use Rattle.journal.specs.Law.{says, left_of, right_of, awaits, SurroundedFinding, EveryFutureFinding, HoldsTheTable, WholeLife}
 use Rattle.journal.specs.Ledgers.{Ledger, ledger_model}
-use Rattle.journal.specs.Worlds.{World, asked, shown, not_shown, show_answer, show_strip, not_whole, Judges}
+use Rattle.journal.specs.Worlds.{World, asked, shown, not_shown, show_answer, show_strip}
 use Rattle.journal.proofs.Agreement.{Facts, world, Agrees}
 
 -- a way out is one by any answers that agree on the points

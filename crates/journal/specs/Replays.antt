@@ -1,5 +1,5 @@
 -- What a replay of a list of events comes to.
-use Rattle.std.specs.Prelude.{◌≡◌, ℕ, ◌*◌, ◌<◌, Bool, true, false, List, length, take, Some, None, Option, slice_index_or}
+use Rattle.std.specs.Prelude.{◌≡◌, ℕ, ◌*◌, ◌<◌, Bool, false, List, length, take, Some, None, Option, slice_index_or}
 use Rattle.model.specs.declared.line.Line.{Line}
 use Rattle.engine.specs.Filling.{Written}
 use Rattle.journal.specs.declared.event.Event.{Event}

@@ -1,14 +1,12 @@
 -- The numbers of the table are below the counts, and its words fit 32 bits.
-use Rattle.std.proofs.Common.{◌≡◌, ℕ, suc, ◌+◌, ◌*◌, ◌/◌, ◌%◌, ◌<◌, ◌≤◌, Bool, true, false, cond, ◌&&◌, List, Some, None, Option, sym, refl, ap, ◌∙◌, subst, arith}
+use Rattle.std.proofs.Common.{◌≡◌, ℕ, suc, ◌<◌, ◌≤◌, Bool, true, false, cond, ◌&&◌, Some, None, Option, sym, refl, ap, ◌∙◌, subst, arith}
 use Rattle.model.specs.declared.kind.Kind.{Kind}
 use Rattle.model.specs.declared.kind.Kind.TheVariants.{Truth, Reading, Not, Or, Near, Surrounded, Next, Until, Awaited}
-use Rattle.model.specs.declared.kind.KindRow.{KindRow}
-use Rattle.model.specs.declared.line.Line.{Line}
 use Rattle.model.specs.Kinds.{kind_row}
 use Rattle.model.specs.Lines.{line_at, built}
 use Rattle.model.specs.Logic.{Model}
 use Rattle.model.specs.Numbers.{any, least}
-use Rattle.model.specs.Table.{word, says_yes, number, no_word, yes_word, near_word, Plane, kind_plane, row_plane, table}
+use Rattle.model.specs.Table.{word, says_yes, number, no_word, yes_word, Plane, kind_plane, row_plane, table}
 use Rattle.model.specs.Theorems.{kind_bound, Bounds}
 use Rattle.model.proofs.Levels.{least_found}
 use Rattle.model.proofs.Unfolding.{built_at}

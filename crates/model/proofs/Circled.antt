@@ -1,13 +1,12 @@
 -- What show writes of an every-future no where the words are the table's: days that circle.
-use Rattle.std.proofs.Common.{◌≡◌, ℕ, zero, suc, ◌+◌, ◌<◌, ◌≤◌, Bool, true, false, cond, not, ◌&&◌, ◌||◌, eqb, List, [], ◌∷◌, ◌++◌, length, get_or, Some, None, Option, sym, refl, ap, ◌∙◌, subst, ap₂, ⊎_elim, arith, length-append}
+use Rattle.std.proofs.Common.{◌≡◌, ℕ, zero, suc, ◌+◌, ◌<◌, ◌≤◌, Bool, true, false, not, ◌&&◌, ◌||◌, eqb, List, [], ◌∷◌, ◌++◌, length, get_or, Some, Option, sym, refl, ap, ◌∙◌, subst, ⊎_elim, arith, length-append}
 use Rattle.std.proofs.lemmas.List.{get_or_append_left, get_or_push}
-use Rattle.std.proofs.lemmas.Bool.{cases_Bool, cases_eq, cases_lt, both_ways, or_cases, or_left, or_right, cond-true, cond-false, eq-eqb, eqb-true, ne_eqb}
-use Rattle.model.specs.Logic.{Run}
+use Rattle.std.proofs.lemmas.Bool.{cases_Bool, cases_eq, both_ways, or_cases, or_left, or_right, cond-true, cond-false, eq-eqb, eqb-true, ne_eqb}
 use Rattle.model.specs.Numbers.{least}
 use Rattle.model.specs.Relations.{Inside, Unending}
 use Rattle.model.specs.Showing.{go_on, stands_in, circle}
 use Rattle.model.specs.Table.{says_yes, awaited_word}
-use Rattle.model.specs.Ways.{no_days, around, Circles, Circling}
+use Rattle.model.specs.Ways.{no_days, around, Circles}
 use Rattle.model.proofs.Futures.{Unsure, no_circles, no_next_some, no_days_unsure}
 use Rattle.model.proofs.Solution.{least_same}
 

@@ -1,9 +1,8 @@
 -- Sets of numbers below n that rise level by level and, once at rest, stay so: whatever they take in they take in before level n.
-use Rattle.std.proofs.Common.{◌≡◌, ℕ, zero, suc, ◌+◌, ◌-◌, ◌<◌, ◌≤◌, Bool, true, false, cond, ◌⊎◌, Some, None, Option, sym, refl, ap, ◌∙◌, subst, inl, inr, ⊎_elim, zero-le, arith}
+use Rattle.std.proofs.Common.{◌≡◌, ℕ, zero, suc, ◌+◌, ◌-◌, ◌<◌, ◌≤◌, Bool, true, false, cond, ◌⊎◌, Some, None, Option, sym, refl, ap, ◌∙◌, subst, inl, inr, ⊎_elim, arith}
 use Rattle.std.proofs.lemmas.Bool.{cases_eq, cases_lt, cases_Bool, both_ways}
-use Rattle.std.proofs.lemmas.Bool.Decides.{nat_tests}
-use Rattle.model.specs.Numbers.{any, tally, least, or_later}
-use Rattle.model.proofs.Numbers.{any_from, any_gives, any_none, tally_le, tally_weaker, tally_least}
+use Rattle.model.specs.Numbers.{tally, least, or_later}
+use Rattle.model.proofs.Numbers.{tally_le, tally_weaker}
 
 -- the least number that passes: below n, and none before it passes
 pub record Found (n : ℕ) (test : ℕ → Bool) (k : ℕ) : Type 0 where

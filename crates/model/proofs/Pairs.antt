@@ -1,5 +1,5 @@
 -- What holds of every link list.
-use Rattle.std.proofs.Common.{◌≡◌, ℕ, ◌+◌, ◌*◌, ◌/◌, ◌<◌, ◌≤◌, Bool, false, ◌&&◌, eqb, ltb, leb, List, length, get_or, arith}
+use Rattle.std.proofs.Common.{◌≡◌, ℕ, ◌+◌, ◌*◌, ◌/◌, ◌≤◌, Bool, false, ◌&&◌, eqb, ltb, leb, List, length, get_or, arith}
 use Rattle.std.proofs.lemmas.Bool.{or_parts, and_parts, and_from, eqb-true, eq-eqb, leb-false, ltb-false}
 use Rattle.model.specs.Links.{pair_from, pair_to, listed, ListedByAPair, BelowCount, past, loose}
 use Rattle.model.specs.Numbers.{any}

@@ -1,13 +1,13 @@
 -- Ways and ranks: the rank of a point is the steps of the shortest way to a goal.
-use Rattle.std.proofs.Common.{◌≡◌, ℕ, zero, suc, ◌<◌, ◌≤◌, Bool, true, false, not, ◌&&◌, ◌||◌, ltb, ◌⊎◌, ◌↔◌, List, [], ◌∷◌, length, is_some, Some, None, Option, sym, refl, ap, ◌∙◌, subst, inl, inr, ⊎_elim, zero-le, arith}
-use Rattle.std.proofs.lemmas.Bool.{cases_Bool, cases_lt, both_ways, and_parts, and_cases, and_from, not-true, not-false, not_from_true, not_from_false, lt-ltb, ltb-true}
+use Rattle.std.proofs.Common.{◌≡◌, ℕ, zero, suc, ◌<◌, ◌≤◌, Bool, true, false, not, ◌&&◌, ltb, List, [], ◌∷◌, length, is_some, Some, None, Option, sym, refl, ap, ◌∙◌, ⊎_elim, zero-le, arith}
+use Rattle.std.proofs.lemmas.Bool.{cases_Bool, cases_lt, both_ways, and_parts, and_cases, and_from, not-true, not_from_false, lt-ltb, ltb-true}
 use Rattle.model.specs.Relations.{Inside}
-use Rattle.model.specs.Table.{says_yes, number, word, no_word, yes_word, reaches, rank, surrounded_word, until_word}
+use Rattle.model.specs.Table.{says_yes, number, no_word, yes_word, reaches, rank, surrounded_word, until_word}
 use Rattle.model.specs.Theorems.{SurroundedMeans, SurroundedLaw, UntilMeans, UntilLaw}
-use Rattle.model.specs.Ways.{Walk, last_of, AfterFirst, BeforeLast, WayOut, Region, Beginning}
+use Rattle.model.specs.Ways.{WayOut, Region, Beginning}
 use Rattle.model.proofs.Levels.{least_found}
-use Rattle.model.proofs.Ranks.{reaches_goal, reaches_step, reaches_by, rank_from, rank_reaches, no_rank}
-use Rattle.model.proofs.Words.{word_yes, word_number, no_word_no, no_word_yes, yes_word_yes, yes_word_no}
+use Rattle.model.proofs.Ranks.{reaches_step, reaches_by, rank_from, rank_reaches, no_rank}
+use Rattle.model.proofs.Words.{word_yes, word_number, no_word_no, no_word_yes, yes_word_yes}
 
 -- steps from x to a goal, one after the other
 abbrev pub PathTo : (ℕ → ℕ → Bool) → (ℕ → Bool) → ℕ → List ℕ → Type 0

@@ -1,10 +1,10 @@
 -- The levels of the two searches for shortest ways, towards a goal and towards what is sure, are rising rows of sets at rest from the count on.
-use Rattle.std.proofs.Common.{◌≡◌, ℕ, zero, suc, ◌+◌, ◌<◌, ◌≤◌, Bool, true, false, not, ◌&&◌, ◌||◌, ◌⊎◌, Some, None, sym, refl, ap, ◌∙◌, ap₂, inl, inr, ⊎_elim, arith}
-use Rattle.std.proofs.lemmas.Bool.{cases_Bool, both_ways, or_cases, or_left, or_right, or_from, or_parts, and_parts, and_from, and_right, not-true, not_from_true, not_from_false}
-use Rattle.model.specs.Numbers.{any, every, least}
+use Rattle.std.proofs.Common.{◌≡◌, ℕ, zero, suc, ◌<◌, ◌≤◌, Bool, true, false, not, ◌&&◌, ◌||◌, ◌⊎◌, Some, None, ap, inl, inr, ⊎_elim}
+use Rattle.std.proofs.lemmas.Bool.{cases_Bool, both_ways, or_cases, or_left, or_right, and_parts, and_from, not-true, not_from_false}
+use Rattle.model.specs.Numbers.{any, every}
 use Rattle.model.specs.Relations.{Inside, Unending}
 use Rattle.model.specs.Table.{reaches, rank, sure, wait}
-use Rattle.model.proofs.Numbers.{any_from, any_gives, any_none, any_same, every_from, every_gives, every_same}
+use Rattle.model.proofs.Numbers.{any_from, any_gives, any_same, every_from, every_gives, every_same}
 use Rattle.model.proofs.Levels as levels
 
 module _ (n : ℕ) (step : ℕ → ℕ → Bool) (goal : ℕ → Bool) where

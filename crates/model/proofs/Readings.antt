@@ -1,10 +1,9 @@
 -- One reading set or cleared: it has its new yes or no, and every other reading is as it was.
 use Rattle.std.proofs.Common.{◌≡◌, ℕ, zero, suc, ◌+◌, ◌-◌, ◌*◌, ◌/◌, ◌%◌, ◌^◌, ◌<◌, Bool, true, false, cond, not, ◌&&◌, ◌||◌, eqb, List, length, get_or, set, sym, refl, ap, ◌∙◌, ap₂, ⊎_elim, arith}
-use mathlib.Core.Bool.{or-false}
-use lib.Bits.{bit_and, bit_or}
+use lib.Bits.{bit_and}
 use Rattle.std.proofs.lemmas.Nat.{and_shr, and_mod}
 use Rattle.std.proofs.lemmas.List.{get_or-set_same, get_or-set_other}
-use Rattle.std.proofs.lemmas.Bool.{cases_eq, cases_Bool, eq-eqb, ne_eqb, eqb-true, and_left}
+use Rattle.std.proofs.lemmas.Bool.{cases_eq, eq-eqb, ne_eqb, and_left}
 use Rattle.model.specs.Books.{reading_in}
 use Rattle.model.specs.Calls.{with_bit, recorded, SetsOneReading}
 use Rattle.model.specs.Masks.{bit}

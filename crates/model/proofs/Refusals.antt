@@ -1,5 +1,5 @@
 -- The refusal of the first bad line: it stays, however many lines follow, and where there is none every line is lawful.
-use Rattle.std.proofs.Common.{◌≡◌, ℕ, zero, suc, ◌*◌, ◌<◌, ◌≤◌, Bool, true, false, not, ◌&&◌, ◌||◌, eqb, List, length, Some, None, Option, refl, ap, subst, ap₂, ⊎_elim, arith}
+use Rattle.std.proofs.Common.{◌≡◌, ℕ, zero, suc, ◌*◌, ◌<◌, ◌≤◌, Bool, true, false, not, ◌||◌, eqb, List, length, Some, None, Option, refl, ap, subst, ap₂, ⊎_elim, arith}
 use Rattle.std.proofs.lemmas.Bool.{cases_eq, cases_Bool, both_ways, and_parts, or_parts, not-false, eqb-true, eqb-false, ltb-false}
 use Rattle.model.specs.declared.kind.KindRow.{KindRow}
 use Rattle.model.specs.declared.line.Line.{Line}

@@ -1,5 +1,5 @@
 -- What holds of every floor's and every calendar's relation.
-use Rattle.std.proofs.Common.{◌≡◌, ℕ, ◌<◌, ◌≤◌, Bool, true, false, ltb, refl, ⊎_elim, zero-le}
+use Rattle.std.proofs.Common.{◌≡◌, ℕ, ◌<◌, ◌≤◌, Bool, false, ⊎_elim, zero-le}
 use Rattle.std.proofs.lemmas.Bool.{cases_lt, both_ways, le-ltb}
 use Rattle.model.specs.Relations.{Inside, Unending, Morrow}
 

@@ -1,8 +1,8 @@
 -- Runs: every day begins one, and the beginning of a run goes on to a whole one.
-use Rattle.std.proofs.Common.{◌≡◌, ℕ, zero, suc, ◌<◌, Bool, true, false, List, [], ◌∷◌, sym, refl, ap, ◌∙◌, subst, arith}
+use Rattle.std.proofs.Common.{◌≡◌, ℕ, zero, suc, ◌<◌, Bool, true, List, [], ◌∷◌, refl, subst, arith}
 use Rattle.model.specs.Logic.{Run, UntilAlong}
 use Rattle.model.specs.Relations.{Inside, Unending}
-use Rattle.model.specs.Ways.{Walk, last_of, BeforeLast, Beginning}
+use Rattle.model.specs.Ways.{Beginning}
 
 -- day d, and then the days of a sequence
 abbrev pub prepend : ℕ → (ℕ → ℕ) → ℕ → ℕ

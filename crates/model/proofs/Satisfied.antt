@@ -11,7 +11,7 @@ use Rattle.model.specs.Relations.{Inside, Unending}
 use Rattle.model.specs.Table.{word, says_yes, near_word, surrounded_word, until_word, awaited_word, Plane, kind_plane, table}
 use Rattle.model.specs.Theorems.{Satisfaction}
 use Rattle.model.specs.Books.{finding_in, BookHolds}
-use Rattle.model.specs.Ways.{Region, Beginning, no_days}
+use Rattle.model.specs.Ways.{Region, no_days}
 use Rattle.model.proofs.Futures.{every_future_law}
 use Rattle.model.proofs.Numbers.{any_from, any_gives}
 use Rattle.model.proofs.Paths.{surrounded_law, until_law}

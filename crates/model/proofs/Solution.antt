@@ -7,7 +7,7 @@ use Rattle.model.specs.declared.line.Line.{Line}
 use Rattle.model.specs.Entries.{kind_entry, row_entry, entry, Obeys, Holds}
 use Rattle.model.specs.Lines.{Operands, line_at, LawfulLines}
 use Rattle.model.specs.Logic.{Model, LawfulModel}
-use Rattle.model.specs.Numbers.{any, least, or_later}
+use Rattle.model.specs.Numbers.{least, or_later}
 use Rattle.model.specs.Table.{word, says_yes, no_word, yes_word, reaches, rank, sure, wait, Plane, kind_plane, table}
 use Rattle.model.specs.Theorems.{OneSolution}
 use Rattle.model.proofs.Fixpoints.{one_surrounded, one_until, one_awaited}

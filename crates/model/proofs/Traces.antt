@@ -1,11 +1,9 @@
 -- What show writes where the words are the table's: a shortest way out, a shortest beginning, and days that circle.
-use Rattle.std.proofs.Common.{◌≡◌, ℕ, zero, suc, ◌<◌, ◌≤◌, Bool, true, false, cond, not, ◌&&◌, eqb, List, [], ◌∷◌, length, Some, None, Option, sym, refl, ap, ◌∙◌, subst, ⊎_elim, arith}
+use Rattle.std.proofs.Common.{◌≡◌, ℕ, zero, suc, ◌<◌, ◌≤◌, Bool, true, false, not, ◌&&◌, eqb, List, [], ◌∷◌, length, Some, None, Option, sym, refl, ap, ◌∙◌, ⊎_elim, arith}
 use Rattle.std.proofs.lemmas.Bool.{cases_lt, both_ways, and_parts, and_from, eq-eqb, eqb-true}
 use Rattle.std.specs.Option.{option_map}
-use Rattle.model.specs.Numbers.{least}
-use Rattle.model.specs.Relations.{Inside}
 use Rattle.model.specs.Showing.{trace, go_on}
-use Rattle.model.specs.Table.{word, says_yes, number, no_word, yes_word, reaches, rank, surrounded_word, until_word}
+use Rattle.model.specs.Table.{word, says_yes, number, reaches, rank, surrounded_word, until_word}
 use Rattle.model.specs.Ways.{WayOut, Beginning}
 use Rattle.model.proofs.Encodings.{code, no_code, yes_code}
 use Rattle.model.proofs.Levels.{least_found, least_from}

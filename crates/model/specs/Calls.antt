@@ -1,5 +1,5 @@
 -- What the calls on a survey answer, and what they leave of its books. A survey has so many points, days and lines; books go by their words.
-use Rattle.std.specs.Prelude.{◌≡◌, ℕ, suc, ◌+◌, ◌-◌, ◌*◌, ◌/◌, ◌^◌, ◌<◌, Bool, true, false, cond, not, ◌&&◌, ◌||◌, List, set, ℤ, pos, negsuc, neg_ℤ, Some, None, Ok, Err, Option, Result, ◌==◌, bit_and, bit_or, int_le, nat_le, nat_lt, slice_index, slice_set}
+use Rattle.std.specs.Prelude.{◌≡◌, ℕ, suc, ◌+◌, ◌-◌, ◌*◌, ◌/◌, ◌^◌, ◌<◌, Bool, true, false, cond, not, ◌&&◌, ◌||◌, List, ℤ, pos, negsuc, neg_ℤ, Some, None, Ok, Err, Option, Result, ◌==◌, bit_and, bit_or, int_le, nat_le, nat_lt, slice_index, slice_set}
 use Rattle.model.specs.declared.answers.Finding.{Finding}
 use Rattle.model.specs.declared.line.Line.{Line}
 use Rattle.model.specs.declared.refusal.Refusal.{Refusal}

@@ -7,7 +7,7 @@ use Rattle.model.specs.declared.line.Line.{Line}
 use Rattle.model.specs.Kinds.{kind_row}
 use Rattle.model.specs.Lines.{line_at}
 use Rattle.model.specs.Logic.{Model}
-use Rattle.model.specs.Numbers.{any, every, lowest, highest}
+use Rattle.model.specs.Numbers.{every, lowest, highest}
 use Rattle.model.specs.Table.{word, says_yes, number, Plane, kind_plane, table}
 
 -- one more than the lowest number found, with that answer; the word where none was found

@@ -1,6 +1,5 @@
 -- What examine answers: a refusal, or else whether every entry is as the entry rule wants it, or the first that is not.
 use Rattle.std.specs.Prelude.{◌≡◌, ℕ, ◌<◌, ◌⊎◌, List, Some, None, Option}
-use Rattle.model.specs.declared.answers.Place.{Place}
 use Rattle.model.specs.declared.answers.Verdict.{Verdict}
 use Rattle.model.specs.declared.answers.Verdict.TheVariants.{Accepted, FalseAt, Refused}
 use Rattle.model.specs.declared.line.Line.{Line}

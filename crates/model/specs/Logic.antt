@@ -1,5 +1,5 @@
 -- The logic: formulas of space and time, and what it means that one is satisfied at a point on a day.
-use Rattle.std.specs.Prelude.{◌≡◌, ℕ, suc, ◌<◌, Bool, true, false, ◌⊎◌}
+use Rattle.std.specs.Prelude.{◌≡◌, ℕ, suc, ◌<◌, Bool, true, ◌⊎◌}
 use Rattle.model.specs.Relations.{Inside, Unending}
 
 -- formulas

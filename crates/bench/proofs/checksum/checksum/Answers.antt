@@ -1,5 +1,5 @@
 -- One word more is one turn more of the fold.
-use Rattle.std.proofs.Common.{◌≡◌, ◌≤◌, length, get_or, take, sym, ap, ◌∙◌, arith, take_all}
+use Rattle.std.proofs.Common.{◌≤◌, length, get_or, sym, ap, ◌∙◌, arith, take_all}
 use Rattle.std.proofs.lemmas.List.Sums.{fold_more}
 use Rattle.bench.specs.Checksums.{added, checksum_of}
 use Rattle.bench.proofs.checksum.checksum.Goals as goal

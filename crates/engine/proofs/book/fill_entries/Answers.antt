@@ -1,7 +1,7 @@
 -- Where everything is in order all lines are filled in, and the table's words say where each formula is satisfied.
-use Rattle.std.proofs.Common.{◌≡◌, ℕ, ◌*◌, ◌≤◌, ◌↔◌, length, sym, refl, ap, ◌∙◌, subst, ap₂, arith}
+use Rattle.std.proofs.Common.{◌≡◌, ◌*◌, length, ap, ap₂, arith}
 use Rattle.model.specs.Books.{model_of}
-use Rattle.model.proofs.Refusals.{InOrder, in_order}
+use Rattle.model.proofs.Refusals.{in_order}
 use Rattle.model.proofs.Satisfied.{holds_means}
 use Rattle.engine.proofs.book.fill_entries.Goals as goal
 

@@ -1,5 +1,5 @@
 -- Each turn puts one day down, and then comes round, breaks off or goes on.
-use Rattle.std.proofs.Common.{◌≡◌, ℕ, suc, ◌<◌, ◌≤◌, Bool, not, ◌&&◌, replicate, Option, sym, refl, arith}
+use Rattle.std.proofs.Common.{ℕ, Bool, not, ◌&&◌, replicate, Option, sym, refl, arith}
 use Rattle.model.specs.Table.{says_yes}
 use Rattle.model.proofs.Levels.{least_found}
 use Rattle.engine.specs.Exploring.{at}

@@ -1,5 +1,5 @@
 -- The next days are gone through in ascending order.
-use Rattle.std.proofs.Common.{◌≡◌, ℕ, Bool, not, sym, ap}
+use Rattle.std.proofs.Common.{ℕ, Bool, not, sym, ap}
 use Rattle.model.specs.Table.{says_yes}
 use Rattle.engine.specs.Exploring.{at}
 use Rattle.engine.proofs.Tracing.{first_passes, none_passes}

@@ -1,4 +1,4 @@
-use Rattle.std.proofs.Common.{◌≡◌, ℕ, ◌+◌, ◌*◌, ◌<◌, ◌≤◌, false, cond, get_or}
+use Rattle.std.proofs.Common.{◌≡◌, ℕ, ◌+◌, ◌*◌, ◌<◌, ◌≤◌, false, get_or}
 use Rattle.model.specs.Masks.{bit}
 use Rattle.model.specs.Table.{says_yes}
 use Rattle.engine.proofs.column.read_answers.Given as goal

@@ -1,4 +1,4 @@
-use Rattle.std.proofs.Common.{◌≡◌, ℕ, ◌+◌, ◌*◌, get_or, subst, arith}
+use Rattle.std.proofs.Common.{◌≡◌, ℕ, get_or, subst, arith}
 use Rattle.engine.specs.Filling.{Column, day_word}
 use Rattle.engine.proofs.Columned.{column_none, column_more}
 use Rattle.engine.proofs.Filled.{day_fits}

@@ -1,5 +1,5 @@
 -- The goals first, and then all from which they are reached; without goals nothing is.
-use Rattle.std.proofs.Common.{◌≡◌, ◌∙◌, arith}
+use Rattle.std.proofs.Common.{◌∙◌, arith}
 use Rattle.engine.specs.Exploring.{step_by, at, Explored}
 use Rattle.engine.proofs.Exploring.{shortest}
 use Rattle.engine.proofs.exploration.explore.Goals as goal

@@ -1,5 +1,5 @@
 -- Each kind is filled in by its own function, and what that writes is what the table has of the kind.
-use Rattle.std.proofs.Common.{◌≡◌, ℕ, ◌+◌, ◌*◌, ◌<◌, ◌≤◌, Bool, not, ◌||◌, List, length, get_or, sym, refl, ap, subst, ap₂, subst₂, arith}
+use Rattle.std.proofs.Common.{◌≡◌, ℕ, ◌+◌, ◌*◌, ◌<◌, ◌≤◌, not, ◌||◌, get_or, sym, refl, ap, subst, ap₂, subst₂, arith}
 use Rattle.model.specs.declared.kind.Kind.{Kind}
 use Rattle.model.specs.declared.kind.Kind.TheVariants.{Truth, Reading, Not, Or, Near, Surrounded, Next, Until, Awaited}
 use Rattle.model.specs.Books.{finding_in, model_of}

@@ -1,5 +1,5 @@
 -- Line by line, each from those below it.
-use Rattle.std.proofs.Common.{◌≡◌, ℕ, ◌+◌, ◌*◌, true, false, Option, sym, refl, ◌∙◌, subst, inr, add-mul, one-mul, arith}
+use Rattle.std.proofs.Common.{◌≡◌, ◌*◌, true, false, Option, sym, refl, ◌∙◌, subst, inr, add-mul, one-mul, arith}
 use Rattle.std.proofs.lemmas.Bool.{both_ways}
 use Rattle.model.specs.declared.kind.KindRow.{KindRow}
 use Rattle.model.specs.Lines.{line_at, row_ok}

@@ -1,4 +1,4 @@
-use Rattle.std.proofs.Common.{◌≡◌, ℕ, ◌*◌, ◌≤◌, length, get_or}
+use Rattle.std.proofs.Common.{◌≡◌, ℕ, ◌*◌, ◌≤◌, get_or}
 use Rattle.model.specs.Books.{model_of, BookHolds}
 use Rattle.engine.proofs.filling.fill_lines.Given as goal
 

@@ -1,5 +1,5 @@
 -- One point more; left's words stand below and are not touched.
-use Rattle.std.proofs.Common.{◌≡◌, ℕ, ◌+◌, ◌*◌, ◌<◌, get_or, ap, subst, inl, arith}
+use Rattle.std.proofs.Common.{◌≡◌, ℕ, ◌+◌, ◌*◌, get_or, ap, subst, inl, arith}
 use Rattle.model.specs.Table.{says_yes, awaited_word, Plane}
 use Rattle.engine.specs.Filling.{Columns}
 use Rattle.engine.proofs.Columned.{columns_none, columns_more, columns_all}

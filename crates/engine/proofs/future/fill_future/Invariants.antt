@@ -1,4 +1,4 @@
-use Rattle.std.proofs.Common.{ℕ, ◌+◌, ◌*◌, get_or}
+use Rattle.std.proofs.Common.{◌+◌, ◌*◌, get_or}
 use Rattle.model.specs.Table.{says_yes, awaited_word}
 use Rattle.engine.specs.Filling.{Columns}
 use Rattle.engine.proofs.future.fill_future.Given as goal

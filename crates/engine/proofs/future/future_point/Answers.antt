@@ -1,5 +1,5 @@
 -- The settled waits, written as words.
-use Rattle.std.proofs.Common.{◌≡◌, ℕ, ◌+◌, ◌*◌, ◌<◌, ◌≤◌, Bool, get_or, ap, ◌∙◌, subst, arith, rules}
+use Rattle.std.proofs.Common.{◌≡◌, ℕ, ◌+◌, ◌*◌, ◌<◌, ◌≤◌, Bool, get_or, ap, ◌∙◌, subst, arith}
 use Rattle.model.specs.Table.{says_yes, awaited_word}
 use Rattle.engine.specs.Filling.{Column, day_word}
 use Rattle.engine.specs.Settling.{awaited_in}

@@ -1,5 +1,5 @@
 -- Each kind is shown by its own function.
-use Rattle.std.proofs.Common.{◌≡◌, ℕ, Bool, true, false, not, ◌&&◌, List, Option, sym, subst}
+use Rattle.std.proofs.Common.{ℕ, true, false, not, ◌&&◌, sym, subst}
 use Rattle.model.specs.declared.kind.Kind.{Kind}
 use Rattle.model.specs.Books.{finding_in}
 use Rattle.model.specs.Showing.{trace, kind_trail}

@@ -1,5 +1,5 @@
 -- The words of one day, read off the book.
-use Rattle.std.proofs.Common.{◌≡◌, ℕ, ◌+◌, ◌*◌, ◌<◌, ◌≤◌, Bool, List, length, Option, ap, ◌∙◌, subst, arith}
+use Rattle.std.proofs.Common.{◌≡◌, ℕ, ◌+◌, ◌*◌, List, length, Option, ap, ◌∙◌, subst, arith}
 use Rattle.model.specs.Books.{finding_in}
 use Rattle.engine.specs.Exploring.{at}
 use Rattle.engine.specs.Strips.{Put}

@@ -1,5 +1,5 @@
 -- The words at one point, read off the book.
-use Rattle.std.proofs.Common.{◌≡◌, ℕ, ◌+◌, ◌*◌, ◌<◌, ◌≤◌, Bool, List, length, get_or, Option, ap, ◌∙◌, subst, arith}
+use Rattle.std.proofs.Common.{◌≡◌, ℕ, ◌+◌, ◌*◌, Bool, List, length, get_or, Option, ap, ◌∙◌, subst, arith}
 use Rattle.model.specs.Books.{finding_in}
 use Rattle.model.specs.Masks.{bit}
 use Rattle.model.specs.Table.{says_yes, number}

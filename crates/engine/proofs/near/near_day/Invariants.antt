@@ -1,4 +1,4 @@
-use Rattle.std.proofs.Common.{ℕ, ◌+◌, get_or}
+use Rattle.std.proofs.Common.{◌+◌, get_or}
 use Rattle.model.specs.Table.{says_yes, near_word}
 use Rattle.engine.specs.Filling.{Written}
 use Rattle.engine.proofs.near.near_day.Given as goal

@@ -1,5 +1,5 @@
 -- The points that lead here are gone through in ascending order.
-use Rattle.std.proofs.Common.{◌≡◌, ℕ, ◌+◌, ◌<◌, ◌≤◌, Bool, true, false, get_or, ⊎_elim, arith}
+use Rattle.std.proofs.Common.{ℕ, ◌+◌, ◌<◌, ◌≤◌, Bool, get_or, ⊎_elim}
 use Rattle.std.proofs.lemmas.Bool.{cases_lt, both_ways, eq-eqb, ne_eqb}
 use Rattle.model.specs.Table.{says_yes}
 use Rattle.engine.proofs.Nearness.{near_found, near_nowhere}

@@ -1,7 +1,7 @@
 -- One day more; left's words stand below and are not touched.
-use Rattle.std.proofs.Common.{◌≡◌, ℕ, ◌+◌, ◌*◌, ◌<◌, get_or, ap, ◌∙◌, subst, inl, arith}
+use Rattle.std.proofs.Common.{◌≡◌, ℕ, ◌+◌, ◌*◌, ◌<◌, get_or, ap, inl, arith}
 use Rattle.model.specs.Table.{says_yes, Plane}
-use Rattle.engine.specs.Filling.{Written, in_order, next_word}
+use Rattle.engine.specs.Filling.{next_word}
 use Rattle.engine.proofs.Filled.{day_more, day_fits}
 use Rattle.engine.proofs.Nexts.{next_same}
 use Rattle.engine.proofs.next.fill_next.Goals as goal

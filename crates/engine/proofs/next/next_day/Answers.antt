@@ -1,5 +1,5 @@
 -- One point more; left's words stand below and are not touched.
-use Rattle.std.proofs.Common.{◌≡◌, ℕ, ◌+◌, ◌*◌, Bool, get_or, ap, ◌∙◌, inl, arith}
+use Rattle.std.proofs.Common.{◌+◌, ◌*◌, get_or, ap, ◌∙◌, inl, arith}
 use Rattle.model.specs.Table.{says_yes}
 use Rattle.engine.specs.Filling.{next_word}
 use Rattle.engine.proofs.Filled.{written_more, day_fits}

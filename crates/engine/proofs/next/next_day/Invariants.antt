@@ -1,4 +1,4 @@
-use Rattle.std.proofs.Common.{ℕ, ◌+◌, ◌*◌, get_or}
+use Rattle.std.proofs.Common.{◌+◌, ◌*◌, get_or}
 use Rattle.model.specs.Table.{says_yes}
 use Rattle.engine.specs.Filling.{Written, next_word}
 use Rattle.engine.proofs.next.next_day.Given as goal

@@ -1,5 +1,4 @@
-use Rattle.std.proofs.Common.{◌+◌, ◌-◌, ◌/◌, ◌%◌, ◌^◌, not, ◌||◌, get_or, refl, ap, ◌∙◌, inl, arith}
-use Rattle.model.specs.Masks.{bit}
+use Rattle.std.proofs.Common.{◌+◌, ◌-◌, ◌%◌, not, get_or, ap, ◌∙◌, inl, arith}
 use Rattle.model.specs.Table.{word, says_yes}
 use Rattle.engine.proofs.MadeWords.{not_word}
 use Rattle.engine.proofs.Filled.{written_none, written_more}

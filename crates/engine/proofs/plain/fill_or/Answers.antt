@@ -1,5 +1,4 @@
-use Rattle.std.proofs.Common.{◌+◌, ◌%◌, max, not, ◌||◌, get_or, refl, ◌∙◌, ap₂, inl, arith}
-use Rattle.model.specs.Masks.{bit}
+use Rattle.std.proofs.Common.{◌+◌, ◌%◌, max, ◌||◌, get_or, ◌∙◌, ap₂, inl, arith}
 use Rattle.model.specs.Table.{word, says_yes}
 use Rattle.engine.proofs.MadeWords.{or_word}
 use Rattle.engine.proofs.Filled.{written_none, written_more}

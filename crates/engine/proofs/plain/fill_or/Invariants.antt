@@ -1,5 +1,4 @@
-use Rattle.std.proofs.Common.{◌+◌, not, ◌||◌, get_or}
-use Rattle.model.specs.Masks.{bit}
+use Rattle.std.proofs.Common.{◌+◌, ◌||◌, get_or}
 use Rattle.model.specs.Table.{word, says_yes}
 use Rattle.engine.specs.Filling.{Written}
 use Rattle.engine.proofs.plain.fill_or.Given as goal

@@ -1,6 +1,6 @@
-use Rattle.std.proofs.Common.{◌+◌, ◌-◌, ◌/◌, ◌%◌, ◌^◌, not, ◌||◌, get_or, refl, ap, ◌∙◌, inl, arith}
+use Rattle.std.proofs.Common.{◌/◌, ◌^◌, get_or, arith}
 use Rattle.model.specs.Masks.{bit}
-use Rattle.model.specs.Table.{word, says_yes}
+use Rattle.model.specs.Table.{word}
 use Rattle.engine.proofs.MadeWords.{bit_word}
 use Rattle.engine.proofs.Filled.{written_none, written_more}
 use Rattle.engine.proofs.plain.fill_reading.Goals as goal

@@ -1,6 +1,6 @@
-use Rattle.std.proofs.Common.{◌+◌, not, ◌||◌, get_or}
+use Rattle.std.proofs.Common.{get_or}
 use Rattle.model.specs.Masks.{bit}
-use Rattle.model.specs.Table.{word, says_yes}
+use Rattle.model.specs.Table.{word}
 use Rattle.engine.specs.Filling.{Written}
 use Rattle.engine.proofs.plain.fill_reading.Given as goal
 

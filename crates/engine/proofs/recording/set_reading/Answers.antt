@@ -1,5 +1,5 @@
 -- The place of a day and a point is within the book, and only that reading changes.
-use Rattle.std.proofs.Common.{◌≡◌, ℕ, ◌+◌, ◌*◌, ◌<◌, ◌≤◌, List, set, sym, ap, subst, arith}
+use Rattle.std.proofs.Common.{ℕ, ◌+◌, ◌*◌, ◌<◌, ◌≤◌, List, set, sym, ap, subst, arith}
 use Rattle.model.specs.Calls.{SetsOneReading}
 use Rattle.model.proofs.Readings.{sets_one_reading}
 use Rattle.engine.proofs.Filled.{day_fits}

@@ -1,5 +1,5 @@
 -- What is in order is what showing a kind wants.
-use Rattle.std.proofs.Common.{◌≡◌, ℕ, ◌+◌, ◌*◌, ◌<◌, ◌≤◌, List, length, Option, sym, ap, ◌∙◌, subst, ap₂, subst₂, arith}
+use Rattle.std.proofs.Common.{◌≡◌, ℕ, ◌*◌, ◌≤◌, length, Option, sym, ap, subst, ap₂, subst₂, arith}
 use Rattle.model.specs.declared.kind.KindRow.{KindRow}
 use Rattle.model.specs.Books.{finding_in}
 use Rattle.model.specs.Lines.{line_at}
@@ -8,7 +8,7 @@ use Rattle.model.specs.Table.{number}
 use Rattle.model.proofs.Unfolding.{operands_of}
 use Rattle.engine.specs.Strips.{Put}
 use Rattle.engine.proofs.Filled.{day_fits}
-use Rattle.engine.proofs.ShowRefusals.{ToShow, to_show}
+use Rattle.engine.proofs.ShowRefusals.{to_show}
 use Rattle.engine.proofs.showing.show_row.Goals as goal
 
 pub show_kind-requires : goal.show_kind-requires

@@ -1,5 +1,5 @@
 -- One day more; left's and right's words stand below and are not touched.
-use Rattle.std.proofs.Common.{◌≡◌, ℕ, ◌+◌, ◌*◌, ◌<◌, Bool, get_or, ap, ◌∙◌, subst, inl, arith}
+use Rattle.std.proofs.Common.{◌≡◌, ℕ, ◌+◌, ◌*◌, ◌<◌, get_or, ap, ◌∙◌, subst, inl, arith}
 use Rattle.model.specs.Table.{says_yes, surrounded_word, Plane}
 use Rattle.engine.specs.Filling.{Written}
 use Rattle.engine.proofs.Filled.{day_more, day_fits}

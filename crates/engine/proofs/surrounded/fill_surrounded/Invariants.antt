@@ -1,4 +1,4 @@
-use Rattle.std.proofs.Common.{ℕ, ◌+◌, ◌*◌, ◌≤◌, length, get_or}
+use Rattle.std.proofs.Common.{◌+◌, ◌*◌, get_or}
 use Rattle.model.specs.Table.{says_yes, surrounded_word}
 use Rattle.engine.specs.Filling.{Written, in_order}
 use Rattle.engine.proofs.surrounded.fill_surrounded.Given as goal

@@ -1,5 +1,5 @@
 -- The exploration's steps, written as words.
-use Rattle.std.proofs.Common.{◌≡◌, ℕ, ◌+◌, ◌<◌, ◌≤◌, Bool, List, length, get_or, ap, ◌∙◌, subst, arith}
+use Rattle.std.proofs.Common.{◌≡◌, ℕ, ◌+◌, Bool, get_or, subst, arith}
 use Rattle.std.specs.List.{between}
 use Rattle.model.specs.Table.{says_yes, surrounded_word}
 use Rattle.engine.specs.Filling.{Written, way_word}

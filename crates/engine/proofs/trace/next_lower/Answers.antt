@@ -1,5 +1,5 @@
 -- The points to which x leads are gone through in ascending order.
-use Rattle.std.proofs.Common.{◌≡◌, ℕ, Bool, ◌&&◌, eqb, sym, ◌∙◌}
+use Rattle.std.proofs.Common.{ℕ, Bool, ◌&&◌, eqb, sym, ◌∙◌}
 use Rattle.engine.specs.Exploring.{at}
 use Rattle.engine.proofs.Tracing.{first_passes, none_passes, as_steps, stays}
 use Rattle.engine.proofs.trace.next_lower.Goals as goal

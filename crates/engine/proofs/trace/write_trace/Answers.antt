@@ -1,7 +1,6 @@
 -- Each turn writes one point and goes on to the next.
-use Rattle.std.proofs.Common.{◌≡◌, ℕ, suc, ◌+◌, ◌-◌, true, false, [], set, is_some, unwrap_or, sym, ap, ◌∙◌, arith}
+use Rattle.std.proofs.Common.{◌≡◌, ℕ, suc, ◌+◌, ◌-◌, set, sym, ap, ◌∙◌, arith}
 use Rattle.std.proofs.lemmas.Bool.{both_ways}
-use Rattle.model.specs.Showing.{trace, written_on}
 use Rattle.model.specs.Table.{word}
 use Rattle.engine.specs.Exploring.{step_by, at}
 use Rattle.engine.proofs.Tracing.{breaks_off, to_come_all, to_come_less, to_come_last}

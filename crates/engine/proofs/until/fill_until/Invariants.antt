@@ -1,4 +1,4 @@
-use Rattle.std.proofs.Common.{ℕ, ◌+◌, ◌*◌, get_or}
+use Rattle.std.proofs.Common.{◌+◌, ◌*◌, get_or}
 use Rattle.model.specs.Table.{says_yes, until_word}
 use Rattle.engine.specs.Filling.{Columns}
 use Rattle.engine.proofs.until.fill_until.Given as goal

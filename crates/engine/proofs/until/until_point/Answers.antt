@@ -1,5 +1,5 @@
 -- The exploration's steps, written as words.
-use Rattle.std.proofs.Common.{◌≡◌, ℕ, ◌+◌, ◌*◌, ◌<◌, Bool, get_or, sym, ap, ◌∙◌, subst, arith}
+use Rattle.std.proofs.Common.{◌≡◌, ℕ, ◌+◌, ◌*◌, Bool, get_or, ap, subst, arith}
 use Rattle.model.specs.Table.{says_yes, until_word}
 use Rattle.engine.specs.Filling.{Column, day_word}
 use Rattle.engine.proofs.Columned.{column_same}

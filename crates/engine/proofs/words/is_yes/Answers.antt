@@ -1,4 +1,4 @@
-use Rattle.std.proofs.Common.{sym, refl, ap}
+use Rattle.std.proofs.Common.{sym, ap}
 use Rattle.std.proofs.lemmas.List.{get_or_past}
 use Rattle.model.specs.Table.{says_yes}
 use Rattle.engine.proofs.words.is_yes.Goals as goal

@@ -1,5 +1,5 @@
 -- The ledger and the world agree at the opening and after every event that was performed, and so the law holds.
-use Rattle.std.proofs.Common.{◌≡◌, ℕ, false, List, length, sym, refl}
+use Rattle.std.proofs.Common.{◌≡◌, ℕ, false, List, sym, refl}
 use Rattle.model.specs.declared.line.Line.{Line}
 use Rattle.journal.specs.Ledgers.{opening, ledger_after}
 use Rattle.journal.specs.Replays.{performed, Opened, Lived}

@@ -1,7 +1,6 @@
 -- The first number that passes the count shows that some does; one more that does not keeps that none has.
 use Rattle.std.proofs.Common.{leb, length, get_or, sym, add-one, arith}
 use Rattle.std.proofs.lemmas.Bool.{or_from, le-leb, lt-leb}
-use Rattle.model.specs.Numbers.{any}
 use Rattle.model.proofs.Numbers.{any_from}
 use Rattle.model.proofs.links.passes_count.Goals as goal
 

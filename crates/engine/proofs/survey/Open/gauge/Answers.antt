@@ -1,5 +1,5 @@
 -- Granted where neither the reading's place nor the scale refuses it.
-use Rattle.std.proofs.Common.{◌≡◌, ℕ, Bool, not, List, length, None, sym, ap, ◌∙◌, subst, ap₂, w32, SFits}
+use Rattle.std.proofs.Common.{◌≡◌, Bool, not, length, None, sym, ap, ◌∙◌, subst, ap₂, w32, SFits}
 use Rattle.std.proofs.lemmas.Int.{to_z-of_z}
 use Rattle.model.specs.declared.refusal.Refusal.TheVariants.{OutOfRange}
 use Rattle.model.specs.Calls.{answer, unless_refused, gauge_refusal, recorded, reaches_level, SetsOneReading}

@@ -1,5 +1,5 @@
 -- A grid with a row and a column has at least as many points as it has rows, or columns.
-use Rattle.std.proofs.Common.{refl, arith, rules}
+use Rattle.std.proofs.Common.{refl, arith}
 use Rattle.std.proofs.lemmas.Bool.Decides.{nat_tests}
 use Rattle.model.proofs.Grids.{rows_below, cols_below, reads}
 use Rattle.model.proofs.grid.Grid.new.Goals as goal
