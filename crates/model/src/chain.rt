@@ -36,11 +36,11 @@ impl Floor for ChainCalendar {
 
     ghost leads = { λ c. chained c.days };
 
-    ghost some = { first_of (Prim.search rules, Prim.grind (arith, Self.row.coded.inj)) };
+    ghost some = { Prim.search rules };
 
-    ghost few = { first_of (Prim.search rules, Prim.grind (arith, Self.row.coded.inj)) };
+    ghost few = { Prim.search rules };
 
-    ghost inside = { first_of (Prim.search rules, Prim.grind (arith, Self.row.coded.inj)) };
+    ghost inside = { Prim.search rules };
 
     fn count(&self) -> usize {
         self.days

@@ -144,11 +144,11 @@ impl Floor for LinkCalendar {
 
     ghost leads = { λ c. masked c.next };
 
-    ghost some = { first_of (Prim.search rules, Prim.grind (arith, Self.row.coded.inj)) };
+    ghost some = { Prim.search rules };
 
-    ghost few = { first_of (Prim.search rules, Prim.grind (arith, Self.row.coded.inj)) };
+    ghost few = { Prim.search rules };
 
-    ghost inside = { first_of (Prim.search rules, Prim.grind (arith, Self.row.coded.inj)) };
+    ghost inside = { Prim.search rules };
 
     fn count(&self) -> usize {
         self.days
