@@ -29,7 +29,8 @@ use Rattle.model.proofs.Paths.{surrounded_law}
 use Rattle.model.proofs.Refusals.{in_order, unless_lawful}
 use Rattle.model.proofs.Solution.{one_solution, plane_same}
 use Rattle.model.proofs.Traces.{surrounded_shown}
-use Rattle.model.proofs.Unfolding.{Placed, operands_of, table_at}
+use Rattle.model.proofs.OperandsRead.{read_so, operands_below}
+use Rattle.model.proofs.Unfolding.{Placed, table_at}
 use Rattle.journal.specs.Law.{says, left_of, right_of, awaits, SurroundedFinding, EveryFutureFinding, HoldsTheTable, WholeLife}
 use Rattle.journal.specs.Ledgers.{Ledger, ledger_model}
 use Rattle.journal.specs.Worlds.{World, asked, shown, not_shown, show_answer, show_strip}
@@ -60,7 +61,9 @@ circles_alike m after inside awaited awaited' a d days c = record {
 
 -- a lawful line with a row of the table is placed by that row
 abbrev placed_by : (lines : List Line) (i : ℕ) (row : KindRow) → kind_row (line_at lines i).kind ≡ Some row → line_ok i (line_at lines i) ≡ true → Placed lines i
-placed_by lines i row e ok = record { row = row; named = e; below = operands_of i (line_at lines i) row e ok }
+placed_by lines i row e ok =
+    let line = line_at lines i in
+    record { row = row; named = e; below = operands_below row.kind i line.left line.right (read_so i line line.kind ok row e) }
 
 module _ (n : ℕ) (leads : ℕ → ℕ → Bool) (m : ℕ) (after : ℕ → ℕ → Bool) (inside_floor : Inside n leads) (inside_calendar : Inside m after) (unending : Unending m after)
     (L : Ledger) (worked : Bool) (readings : List ℕ) (lines : List Line) (findings strip : List ℕ) (f : Facts n leads m after L worked readings lines findings) where

@@ -9,7 +9,8 @@ use Rattle.model.specs.Lines.{Operands, line_at, LawfulLines}
 use Rattle.model.specs.Logic.{Model}
 use Rattle.model.specs.Table.{word, Plane, kind_plane, table}
 use Rattle.model.proofs.Solution.{plane_same}
-use Rattle.model.proofs.Unfolding.{Placed, placed, table_at}
+use Rattle.model.proofs.Unfolding.{Below, Placed, placed, table_at}
+use Rattle.model.proofs.OperandsRead.{read_so}
 
 module _ (n m : ℕ) (leads after : ℕ → ℕ → Bool) (reading reading' : ℕ → ℕ → ℕ → Bool)
     (alike : (d x a : ℕ) → d < m → x < n → a < 32 → reading d x a ≡ reading' d x a) where
@@ -40,10 +41,10 @@ module _ (n m : ℕ) (leads after : ℕ → ℕ → Bool) (reading reading' : �
         let q : Placed lines' k = record {
           row = p.row;
           named = ap (λ (line : Line). kind_row line.kind) (sym e) ∙ p.named;
-          below = subst (λ (line : Line). Operands kind k line.left line.right) e p.below;
+          below = subst (λ (line : Line). Below kind k line.left line.right) e p.below;
         } in
         table_at (with_readings reading) lines k p d x
-        ∙ plane_alike kind (table (with_readings reading) lines) k l.left l.right p.below d x hd hx
+        ∙ plane_alike kind (table (with_readings reading) lines) k l.left l.right (read_so k l l.kind (lawful k h) p.row p.named) d x hd hx
         ∙ plane_same (with_readings reading') kind (table (with_readings reading) lines) (table (with_readings reading') lines') k l.left l.right below p.below d x hd hx
         ∙ ap (λ (line : Line). kind_plane (with_readings reading') kind (table (with_readings reading') lines') line.left line.right d x) e
         ∙ sym (table_at (with_readings reading') lines' k q d x)

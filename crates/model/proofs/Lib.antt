@@ -13,6 +13,7 @@ pub mod Paths
 pub mod Runs
 pub mod Futures
 pub mod Unfolding
+pub mod OperandsRead
 pub mod Satisfied
 pub mod Encodings
 pub mod Fixpoints

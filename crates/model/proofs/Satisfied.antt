@@ -4,7 +4,7 @@ use Rattle.std.proofs.lemmas.Bool.{cases_Bool, cases_eq, both_ways, and_parts, a
 use Rattle.model.specs.declared.line.Line.{Line}
 use Rattle.model.specs.declared.kind.Kind.{Kind}
 use Rattle.model.specs.declared.kind.Kind.TheVariants.{Truth, Reading, Not, Or, Near, Surrounded, Next, Until, Awaited}
-use Rattle.model.specs.Lines.{Operands, LawfulLines, line_at, kind_formula, formula_of}
+use Rattle.model.specs.Lines.{LawfulLines, line_at, kind_formula, formula_of}
 use Rattle.model.specs.Logic.{Formula, Model, LawfulModel, Closure, Boundary, Run, UntilAlong, Sat}
 use Rattle.model.specs.Numbers.{any}
 use Rattle.model.specs.Relations.{Inside, Unending}
@@ -16,7 +16,7 @@ use Rattle.model.proofs.Futures.{every_future_law}
 use Rattle.model.proofs.Numbers.{any_from, any_gives}
 use Rattle.model.proofs.Paths.{surrounded_law, until_law}
 use Rattle.model.proofs.Runs.{run_from, run_before, run_leads, beginning_run, run_begins}
-use Rattle.model.proofs.Unfolding.{placed, table_at, formula_at}
+use Rattle.model.proofs.Unfolding.{Below, placed, table_at, formula_at}
 use Rattle.model.proofs.Words.{word_yes}
 
 -- a test and a fact that hold together
@@ -136,7 +136,7 @@ Agrees M plane f = (d x : ℕ) → d < M.days → x < M.points → Agree (says_y
 
 -- the words of a kind agree with its formula where those of the lines below do
 pub kind_agrees : (M : Model) → LawfulModel M → (kind : Kind) (lower : ℕ → Plane) (f : ℕ → Formula) (i l r : ℕ)
-    → ((j : ℕ) → j < i → Agrees M (lower j) (f j)) → Operands kind i l r → Agrees M (kind_plane M kind lower l r) (kind_formula kind f l r)
+    → ((j : ℕ) → j < i → Agrees M (lower j) (f j)) → Below kind i l r → Agrees M (kind_plane M kind lower l r) (kind_formula kind f l r)
 kind_agrees M lawful Truth lower f i l r all b d x hd hx = (λ _. tt, λ _. refl)
 kind_agrees M lawful Reading lower f i l r all b d x hd hx = by_word _ 0 _ (λ e. e, λ e. e)
 kind_agrees M lawful Not lower f i l r all b d x hd hx = by_word _ 0 _ (agree_not _ _ (all l b d x hd hx))

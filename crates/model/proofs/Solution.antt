@@ -5,14 +5,14 @@ use Rattle.model.specs.declared.kind.Kind.{Kind}
 use Rattle.model.specs.declared.kind.Kind.TheVariants.{Truth, Reading, Not, Or, Near, Surrounded, Next, Until, Awaited}
 use Rattle.model.specs.declared.line.Line.{Line}
 use Rattle.model.specs.Entries.{kind_entry, row_entry, entry, Obeys, Holds}
-use Rattle.model.specs.Lines.{Operands, line_at, LawfulLines}
+use Rattle.model.specs.Lines.{line_at, LawfulLines}
 use Rattle.model.specs.Logic.{Model, LawfulModel}
 use Rattle.model.specs.Numbers.{least, or_later}
 use Rattle.model.specs.Table.{word, says_yes, no_word, yes_word, reaches, rank, sure, wait, Plane, kind_plane, table}
 use Rattle.model.specs.Theorems.{OneSolution}
 use Rattle.model.proofs.Fixpoints.{one_surrounded, one_until, one_awaited}
 use Rattle.model.proofs.Numbers.{any_same, every_same}
-use Rattle.model.proofs.Unfolding.{placed, table_at}
+use Rattle.model.proofs.Unfolding.{Below, placed, table_at}
 
 -- tests that agree below n have the same least number
 pub least_same : (n : ℕ) (t u : ℕ → Bool) → ((k : ℕ) → k < n → t k ≡ u k) → least n t ≡ least n u
@@ -45,7 +45,7 @@ abbrev pub Agree : Model → ℕ → (ℕ → Plane) → (ℕ → Plane) → Typ
 Agree M i words words' = (j d x : ℕ) → j < i → d < M.days → x < M.points → words j d x ≡ words' j d x
 
 -- the words of a kind depend on what the lines below have on the days and points of the model only
-pub plane_same : (M : Model) (kind : Kind) (words words' : ℕ → Plane) (i left right : ℕ) → Agree M i words words' → Operands kind i left right → (d x : ℕ) → d < M.days → x < M.points → kind_plane M kind words left right d x ≡ kind_plane M kind words' left right d x
+pub plane_same : (M : Model) (kind : Kind) (words words' : ℕ → Plane) (i left right : ℕ) → Agree M i words words' → Below kind i left right → (d x : ℕ) → d < M.days → x < M.points → kind_plane M kind words left right d x ≡ kind_plane M kind words' left right d x
 plane_same M Truth words words' i left right same b d x h l = refl
 plane_same M Reading words words' i left right same b d x h l = refl
 plane_same M Not words words' i left right same b d x h l = rw (same left d x b h l)

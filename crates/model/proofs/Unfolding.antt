@@ -1,5 +1,5 @@
 -- What the table and the formula of a lawful line are, over those of the lines below it.
-use Rattle.std.proofs.Common.{◌≡◌, ℕ, zero, suc, ◌<◌, Bool, true, false, ◌&&◌, eqb, ltb, List, [], ◌∷◌, Some, None, Option, sym, refl, ap, ◌∙◌, subst, ⊎_elim, arith}
+use Rattle.std.proofs.Common.{◌≡◌, ℕ, zero, suc, ◌<◌, Bool, true, false, ◌&&◌, eqb, ltb, List, [], ◌∷◌, Some, None, Option, sym, refl, ap, ◌∙◌, ⊎_elim, arith}
 use Rattle.std.proofs.lemmas.Bool.{cases_eq, both_ways, eq-eqb, ne_eqb, and_parts, ltb-true, cond-true, cond-false, cond_both}
 use Rattle.std.specs.List.{AllByRecursion as All}
 use Rattle.model.specs.declared.kind.Kind.{Kind}
@@ -7,7 +7,7 @@ use Rattle.model.specs.declared.kind.Kind.TheVariants.{Truth, Reading, Not, Or, 
 use Rattle.model.specs.declared.kind.KindRow.{KindRow}
 use Rattle.model.specs.declared.line.Line.{Line}
 use Rattle.model.specs.Kinds.{kinds, row_among, kind_row}
-use Rattle.model.specs.Lines.{line_at, row_ok, LawfulLines, Operands, built, kind_formula, row_formula, formula_of}
+use Rattle.model.specs.Lines.{line_at, row_ok, LawfulLines, built, kind_formula, row_formula, formula_of}
 use Rattle.model.specs.Logic.{Model, Formula, truth}
 use Rattle.model.specs.Table.{Plane, kind_plane, row_plane, table}
 
@@ -28,21 +28,33 @@ among P [] none all letter = none
 among P (r ∷ rows) none all letter =
     cond_both (eqb r.letter letter) (Some r) (row_among rows letter) P (λ _. all.0) (λ _. among P rows none all.1 letter)
 
+-- the operands that a kind takes for lines are lines below line i
+abbrev pub Below : Kind → ℕ → ℕ → ℕ → Type 0
+Below Truth i left right = Unit {0}
+Below Reading i left right = Unit {0}
+Below Not i left right = left < i
+Below Or i left right = (left < i) × (right < i)
+Below Near i left right = left < i
+Below Surrounded i left right = (left < i) × (right < i)
+Below Next i left right = left < i
+Below Until i left right = (left < i) × (right < i)
+Below Awaited i left right = left < i
+
 -- line i has a row in the table of kinds, and the lines that it names are below it
 pub record Placed (lines : List Line) (i : ℕ) : Type 0 where
   pub row : KindRow
   pub named : kind_row (line_at lines i).kind ≡ Some row
-  pub below : Operands row.kind i (line_at lines i).left (line_at lines i).right
+  pub below : Below row.kind i (line_at lines i).left (line_at lines i).right
 
 -- what a lawful row gives: itself, and the lines below
 abbrev pub Lawful : ℕ → Line → Option KindRow → Type 0
-Lawful i line o = row_ok o i line ≡ true → (row : KindRow) × (o ≡ Some row) × Operands row.kind i line.left line.right
+Lawful i line o = row_ok o i line ≡ true → (row : KindRow) × (o ≡ Some row) × Below row.kind i line.left line.right
 
 -- operands that pass the test are lines below
-left_below : (i left : ℕ) (other : Bool) → (ltb left i && other) ≡ true → left < i
+pub left_below : (i left : ℕ) (other : Bool) → (ltb left i && other) ≡ true → left < i
 left_below i left other h = ltb-true left i (and_parts (ltb left i) other h).0
 
-both_below : (i left right : ℕ) → (ltb left i && ltb right i) ≡ true → (left < i) × (right < i)
+pub both_below : (i left right : ℕ) → (ltb left i && ltb right i) ≡ true → (left < i) × (right < i)
 both_below i left right h = let parts = and_parts (ltb left i) (ltb right i) h in (ltb-true left i parts.0, ltb-true right i parts.1)
 
 -- the row of any letter gives that
@@ -51,7 +63,7 @@ lawful_row i line =
     among (Lawful i line) kinds (λ h. absurd (both_ways false refl h)) (
       (λ _. (_, refl, tt)),
       (
-        (λ h. (_, refl, left_below 32 line.left _ h)),
+        (λ _. (_, refl, tt)),
         (
           (λ h. (_, refl, left_below i line.left _ h)),
           (
@@ -74,16 +86,6 @@ lawful_row i line =
       ),
     )
 
--- two rows found by one letter are the same
-same_row : (a b : KindRow) → ◌≡◌ {A = Option KindRow} (Some a) (Some b) → a ≡ b
-same_row a b e = cc
-
--- a lawful line's operands are as its kind reads them
-pub operands_of : (i : ℕ) (line : Line) (row : KindRow) → kind_row line.kind ≡ Some row → row_ok (kind_row line.kind) i line ≡ true → Operands row.kind i line.left line.right
-operands_of i line row named ok =
-    let w = lawful_row i line line.kind ok in
-    subst (λ (r : KindRow). Operands r.kind i line.left line.right) (same_row w.0 row (sym w.1 ∙ named)) w.2
-
 -- every lawful line is placed so
 pub placed : (lines : List Line) (count : ℕ) → LawfulLines lines count → (i : ℕ) → i < count → Placed lines i
 placed lines count lawful i h =
@@ -91,7 +93,7 @@ placed lines count lawful i h =
     record { row = w.0; named = w.1; below = w.2 }
 
 -- the words of a kind depend on the lines below only
-plane_below : (M : Model) (kind : Kind) (lower lower' : ℕ → Plane) (i left right : ℕ) → ((j : ℕ) → j < i → lower j ≡ lower' j) → Operands kind i left right → (d x : ℕ) → kind_plane M kind lower left right d x ≡ kind_plane M kind lower' left right d x
+plane_below : (M : Model) (kind : Kind) (lower lower' : ℕ → Plane) (i left right : ℕ) → ((j : ℕ) → j < i → lower j ≡ lower' j) → Below kind i left right → (d x : ℕ) → kind_plane M kind lower left right d x ≡ kind_plane M kind lower' left right d x
 plane_below M Truth lower lower' i left right same b d x = refl
 plane_below M Reading lower lower' i left right same b d x = refl
 plane_below M Not lower lower' i left right same b d x = rw (same left b)
@@ -103,7 +105,7 @@ plane_below M Until lower lower' i left right same b d x = rw (same left b.0, sa
 plane_below M Awaited lower lower' i left right same b d x = rw (same left b)
 
 -- and so does its formula
-formula_below : (kind : Kind) (lower lower' : ℕ → Formula) (i left right : ℕ) → ((j : ℕ) → j < i → lower j ≡ lower' j) → Operands kind i left right → kind_formula kind lower left right ≡ kind_formula kind lower' left right
+formula_below : (kind : Kind) (lower lower' : ℕ → Formula) (i left right : ℕ) → ((j : ℕ) → j < i → lower j ≡ lower' j) → Below kind i left right → kind_formula kind lower left right ≡ kind_formula kind lower' left right
 formula_below Truth lower lower' i left right same b = refl
 formula_below Reading lower lower' i left right same b = refl
 formula_below Not lower lower' i left right same b = rw (same left b)

@@ -15,6 +15,7 @@ impl Books {
     // Books of zeroes.
     pub fn new() -> Books
         ensures readings { result.readings ≡ replicate 8192 0 }
+        ensures lines { result.lines ≡ replicate 64 (record { kind = 0; left = 0; right = 0 }) }
         ensures findings { result.findings ≡ replicate 8192 0 }
     {
         let none = Line {

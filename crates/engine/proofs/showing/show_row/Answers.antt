@@ -5,7 +5,7 @@ use Rattle.model.specs.Books.{finding_in}
 use Rattle.model.specs.Lines.{line_at}
 use Rattle.model.specs.Showing.{strip_needed, row_trail, kind_trail}
 use Rattle.model.specs.Table.{number}
-use Rattle.model.proofs.Unfolding.{operands_of}
+use Rattle.model.proofs.OperandsRead.{read_so}
 use Rattle.engine.specs.Strips.{Put}
 use Rattle.engine.proofs.Filled.{day_fits}
 use Rattle.engine.proofs.ShowRefusals.{to_show}
@@ -29,7 +29,7 @@ show_kind-requires g c =
     let all : i * (m * n) ≡ i * (k.days * k.points) = ap (λ a. i * a) size in
     let fits = day_fits i k.lines (k.days * k.points) o.line in
     record {
-      operands = operands_of i (line_at lines i) row named (o.lawful i o.line);
+      operands = read_so i (line_at lines i) (line_at lines i).kind (o.lawful i o.line) row named;
       place = (omega arith, (omega arith, (omega arith, omega arith)));
       held = (omega arith, subst₂ (λ (a b : ℕ). strip_needed row.kind b (number (finding_in book a b i d x)) ≤ held) (sym o.floor) (sym o.calendar) (o.room row named));
     }
