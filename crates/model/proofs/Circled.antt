@@ -1,5 +1,6 @@
 -- What show writes of an every-future no where the words are the table's: days that circle.
 use Rattle.std.proofs.Common.{◌≡◌, ℕ, zero, suc, ◌+◌, ◌<◌, ◌≤◌, Bool, true, false, not, ◌&&◌, ◌||◌, eqb, List, [], ◌∷◌, ◌++◌, length, get_or, Some, Option, sym, refl, ap, ◌∙◌, subst, ⊎_elim, arith, length-append}
+use Rattle.std.proofs.Math.Bool.{or-false, or_assoc}
 use Rattle.std.proofs.lemmas.List.{get_or_append_left, get_or_push}
 use Rattle.std.proofs.lemmas.Bool.{cases_Bool, cases_eq, both_ways, or_cases, or_left, or_right, cond-true, cond-false, eq-eqb, eqb-true, ne_eqb}
 use Rattle.model.specs.Numbers.{least}
@@ -36,16 +37,8 @@ stands_end d [] = or_left _ _ (eq-eqb d d refl)
 stands_end d (x ∷ xs) = or_right (eqb x d) _ (stands_end d xs)
 
 stands_split : (d : ℕ) (xs : List ℕ) (y : ℕ) → stands_in d (xs ++ y ∷ []) ≡ (stands_in d xs || eqb y d)
-stands_split d [] y = refl' (eqb y d)
-  where
-    refl' : (b : Bool) → (b || false) ≡ b
-    refl' true = refl
-    refl' false = refl
-stands_split d (x ∷ xs) y = ap (λ b. eqb x d || b) (stands_split d xs y) ∙ assoc (eqb x d) (stands_in d xs) (eqb y d)
-  where
-    assoc : (a b c : Bool) → (a || (b || c)) ≡ ((a || b) || c)
-    assoc true b c = refl
-    assoc false b c = refl
+stands_split d [] y = or-false (eqb y d)
+stands_split d (x ∷ xs) y = ap (λ b. eqb x d || b) (stands_split d xs y) ∙ sym (or_assoc (eqb x d) (stands_in d xs) (eqb y d))
 
 module _ (day : ℕ → ℕ) where
   -- an earlier day stands in the front, and what stands there is an earlier day

@@ -1,16 +1,9 @@
 -- What holds of every grid: its size, and its links read by rows and columns.
-use Rattle.std.proofs.Common.{◌≡◌, ℕ, ◌+◌, ◌*◌, ◌/◌, ◌%◌, ◌<◌, ◌≤◌, ◌&&◌, eqb, sym, ap, ◌∙◌, ap₂, mul_comm, add-mul, one-mul, mul-one, arith}
-use Rattle.std.proofs.lemmas.Nat.{div-mul-add, mod-mul-add, mul-add-lt, mul-le}
+use Rattle.std.proofs.Common.{◌≡◌, ℕ, ◌+◌, ◌*◌, ◌/◌, ◌%◌, ◌<◌, ◌&&◌, eqb, sym, ap, ◌∙◌, ap₂, mul_comm, add-mul, one-mul, arith}
+use Rattle.std.proofs.lemmas.Nat.{div-mul-add, mod-mul-add, mul-add-lt}
 use Rattle.std.proofs.lemmas.Bool.{lt-ltb}
 use Rattle.std.proofs.lemmas.Bool.Decides.{nat_tests, same_from_decides, Decides-eqb, Decides-and, Decides-like}
 use Rattle.model.specs.Grids.{east, south, ReadsByRowAndColumn}
-
--- with at least one row and one column, there are as many points as rows and as columns
-pub rows_below : (rows cols : ℕ) → 1 ≤ cols → rows ≤ rows * cols
-rows_below rows cols h = omega (arith, mul-le rows 1 rows cols (omega arith) h, mul-one rows)
-
-pub cols_below : (rows cols : ℕ) → 1 ≤ rows → cols ≤ rows * cols
-cols_below rows cols h = omega (arith, mul-le 1 cols rows cols h (omega arith), one-mul cols)
 
 -- a place tells its row and its column
 pub same_place : (cols r c s d : ℕ) → c < cols → d < cols → r * cols + c ≡ s * cols + d → (r ≡ s) × (c ≡ d)

@@ -1,5 +1,6 @@
 pub mod Numbers
 pub mod Relations
+pub mod Chains
 pub mod Grids
 pub mod Inverses
 pub mod Pairs
@@ -12,6 +13,7 @@ pub mod Words
 pub mod Paths
 pub mod Runs
 pub mod Futures
+pub mod GoingThrough
 pub mod Unfolding
 pub mod OperandsRead
 pub mod Satisfied

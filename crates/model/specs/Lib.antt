@@ -19,3 +19,4 @@ pub mod Heaps
 pub mod Examining
 pub mod Calls
 pub mod Showing
+pub mod Printing

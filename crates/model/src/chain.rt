@@ -1,6 +1,7 @@
 // The chain calendar: one plan without forks.
 ghost use Rattle.std.specs.Prelude.{◌≡◌, ℕ, ◌+◌, ◌≤◌, IfOk, if◌then◌else◌, nat_lt};
 ghost use Rattle.std.specs.Result.{result_err};
+ghost use Rattle.model.specs.Calls.{answer};
 ghost use Rattle.model.specs.Chains.{chained};
 ghost use Rattle.model.specs.Refusals.{days_refusal};
 ghost use Rattle.std.proofs.Common.{rules, arith};
@@ -18,15 +19,23 @@ pub struct ChainCalendar {
     ghost few: { days ≤ 64 },
 }
 
+// Whether a calendar can have so many days, or why not.
+pub(crate) fn check_days(days: usize) -> Result<(), Refusal>
+    ensures { result ≡ answer (days_refusal days) tt }
+{
+    if days == 0 || days > 64 {
+        return Err(Refusal::CalendarSize);
+    }
+    Ok(())
+}
+
 impl ChainCalendar {
     // A chain of 1 to 64 days.
     pub fn new(days: usize) -> Result<ChainCalendar, Refusal>
         ensures refusal { result_err result ≡ days_refusal days }
         ensures days { IfOk result (λ c. c.days ≡ days) }
     {
-        if days == 0 || days > 64 {
-            return Err(Refusal::CalendarSize);
-        }
+        check_days(days)?;
         Ok(ChainCalendar { days })
     }
 }
@@ -51,7 +60,7 @@ impl Floor for ChainCalendar {
             return None;
         }
         let next = if p + 1 < self.days { p + 1 } else { p };
-        if q <= next { Some(next) } else { None }
+        (q <= next).then_some(next)
     }
 
     fn inward(&self, p: usize, q: usize) -> Option<usize> {

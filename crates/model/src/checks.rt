@@ -1,5 +1,6 @@
 // Checks that several calls share: whether lines are lawful, and whether everything is in order for all entries of a survey.
 ghost use Rattle.std.specs.Prelude.{◌≡◌, length};
+ghost use Rattle.std.specs.Result.{result_err};
 ghost use Rattle.model.specs.Lines.{operand_ok};
 ghost use Rattle.model.specs.Refusals.{line_refusal, lines_refusal, whole_refusal};
 
@@ -21,54 +22,52 @@ fn is_operand(operand: Operand, i: usize, value: u32) -> bool
     }
 }
 
-// Why line i is not lawful, if it is not.
-pub fn line_refusal(i: usize, line: Line) -> Option<Refusal>
-    ensures { result ≡ line_refusal i line }
+// Whether line i is lawful, or why not.
+pub fn check_line(i: usize, line: Line) -> Result<(), Refusal>
+    ensures { result_err result ≡ line_refusal i line }
 {
-    let Some(row) = kind_row(line.kind) else {
-        return Some(Refusal::NoKind);
-    };
+    let row = kind_row(line.kind).ok_or(Refusal::NoKind)?;
     if is_operand(row.left, i, line.left) && is_operand(row.right, i, line.right) {
-        return None;
+        return Ok(());
     }
-    Some(Refusal::BadOperand)
+    Err(Refusal::BadOperand)
 }
 
-// Why the first bad line among the first `count` is not lawful; past the end of the book a line is of no kind.
-pub fn lines_refusal(lines: &[Line], count: usize) -> Option<Refusal>
-    ensures { result ≡ lines_refusal lines.now count }
+// Whether the first `count` lines are lawful, or why the first bad one is not; past the end of the book a line is of no kind, and so the
+// numbers are gone through and not the lines.
+pub fn check_lines(lines: &[Line], count: usize) -> Result<(), Refusal>
+    ensures { result_err result ≡ lines_refusal lines.now count }
 {
     for i in 0..count {
-        if i >= lines.len() {
-            return Some(Refusal::NoKind);
-        }
-        if let Some(why) = line_refusal(i, lines[i]) {
-            return Some(why);
-        }
+        let Some(line) = lines.get(i) else {
+            return Err(Refusal::NoKind);
+        };
+        check_line(i, *line)?;
     }
-    None
+    Ok(())
 }
 
-// Why the entries of a survey cannot all be worked or examined: a count that differs, a short book, no lines, or the first bad line.
-pub fn whole_refusal<F: Floor, C: Calendar>(
+// Whether the entries of a survey can all be worked or examined, or why not: a count that differs, a short book, no lines, or the first
+// bad line. Floor, calendar and books are taken one by one: a rule of the project. Showing checks others of them, in the same order.
+pub fn check_whole<F: Floor, C: Calendar>(
     numbers: SurveyNumbers,
     floor: &F,
     calendar: &C,
     readings: &[u32],
     lines: &[Line],
     findings: &[u32],
-) -> Option<Refusal>
-    ensures { result ≡ whole_refusal numbers.points numbers.days numbers.lines (F.Floor.points floor.now) (C.Floor.points calendar.now) (length readings.now) lines.now (length findings.now) }
+) -> Result<(), Refusal>
+    ensures { result_err result ≡ whole_refusal numbers.points numbers.days numbers.lines (F.Floor.points floor.now) (C.Floor.points calendar.now) (length readings.now) lines.now (length findings.now) }
 {
     if floor.count() != numbers.points || calendar.count() != numbers.days {
-        return Some(Refusal::OtherCounts);
+        return Err(Refusal::OtherCounts);
     }
-    let size = numbers.days * numbers.points;
+    let size = numbers.size();
     if readings.len() < size || lines.len() < 64 || findings.len() < numbers.lines * size {
-        return Some(Refusal::ShortBook);
+        return Err(Refusal::ShortBook);
     }
     if numbers.lines == 0 {
-        return Some(Refusal::NoLines);
+        return Err(Refusal::NoLines);
     }
-    lines_refusal(lines, numbers.lines)
+    check_lines(lines, numbers.lines)
 }

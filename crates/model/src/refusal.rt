@@ -1,6 +1,9 @@
 // Why a call was refused.
-ghost use Rattle.std.specs.Prelude.{◌≡◌};
+ghost use Rattle.std.specs.Prelude.{◌≡◌, Some};
 ghost use Rattle.model.specs.Refusals.{number_of};
+
+use std::error::Error;
+use std::fmt;
 
 // One list for the whole project; `number` gives each its fixed number.
 #[derive(Clone, Copy, PartialEq, Eq, Debug)]
@@ -36,7 +39,7 @@ pub enum Refusal {
 }
 
 impl Refusal {
-    // The number by which the refusal is printed and handed to C.
+    // The number by which the refusal is printed and handed to C; a `From` would not say which number that is.
     pub fn number(self) -> u32
         ensures { result ≡ number_of self }
     {
@@ -58,3 +61,16 @@ impl Refusal {
         }
     }
 }
+
+impl fmt::Display for Refusal {
+    ghost use Rattle.model.specs.Printing.{refusal_text};
+
+    ghost output = { λ why. Some (refusal_text why) };
+
+    fn fmt<W: fmt::Write>(&self, f: &mut fmt::Formatter<W>) -> fmt::Result {
+        let number = self.number();
+        write!(f, "refused, {number}")
+    }
+}
+
+impl Error for Refusal {}

@@ -1,7 +1,6 @@
--- The refusals come in their order, and masks without a dead end make a calendar.
-use Rattle.std.proofs.Common.{◌≡◌, ℕ, ◌≤◌, Bool, true, false, not, ◌||◌, eqb, ltb, List, sym, refl, ◌∙◌, arith}
-use Rattle.std.proofs.lemmas.Bool.{not-false, or_from, ne_eqb, le-ltb}
-use Rattle.std.proofs.lemmas.Bool.Decides.{nat_tests}
+-- A list that passes is tight, and masks without a dead end make a calendar.
+use Rattle.std.proofs.Common.{◌≡◌, ℕ, ◌≤◌, Bool, true, false, not, ◌||◌, eqb, ltb, List, sym, refl, rules, arith}
+use Rattle.std.proofs.lemmas.Bool.{not-false}
 use Rattle.model.specs.declared.refusal.Refusal.TheVariants.{DeadEnd}
 use Rattle.model.specs.Links.{listed, loose}
 use Rattle.model.specs.Masks.{masked}
@@ -9,33 +8,23 @@ use Rattle.model.specs.Numbers.{any}
 use Rattle.model.specs.Refusals.{where_so, link_calendar_refusal}
 use Rattle.model.proofs.Masks.{masked_inside, masked_low, dead_ends}
 use Rattle.model.proofs.Numbers.{any_none}
-use Rattle.model.proofs.Pairs.{listed_by_a_pair, all_below}
+use Rattle.model.proofs.Pairs.{all_below}
 use Rattle.model.proofs.link_calendar.LinkCalendar.of_list.Goals as goal
 
 -- where the list and the size pass, the dead ends decide
-dead-end-decides : (n : ℕ) (pairs masks : List ℕ) → (n ≡ 0 → ⊥) → n ≤ 64 → loose n pairs ≡ false → ((p q : ℕ) → masked masks p q ≡ listed pairs p q)
+dead-end-decides : (n : ℕ) (pairs masks : List ℕ) → (eqb n 0 || ltb 64 n) ≡ false → n ≤ 64 → loose n pairs ≡ false → ((p q : ℕ) → masked masks p q ≡ listed pairs p q)
     → (b : Bool) → b ≡ any n (λ d. not (any 64 (masked masks d))) → where_so b DeadEnd ≡ link_calendar_refusal n pairs
-dead-end-decides n pairs masks some few tight links b ends =
-    let size : (eqb n 0 || ltb 64 n) ≡ false = or_from _ _ (ne_eqb n 0 some) (le-ltb 64 n few) in
-    rw (tight, size, ← dead_ends n pairs masks tight links few, ends) refl
-
-pub returns-then-is_loose : goal.returns-then-is_loose
-returns-then-is_loose c = record { refusal = rw (← c.if-is_loose.ensures) refl; days = tt; leads = tt; reads = listed_by_a_pair c.args.pairs.now }
-
-pub returns-then-days-eq0 : goal.returns-then-days-eq0
-returns-then-days-eq0 c =
-    let size : (eqb c.args.days 0 || ltb 64 c.args.days) ≡ true = let e = c.then-days-eq0.either in grind (arith, nat_tests) in
-    record { refusal = rw (← c.if-is_loose.ensures, size) refl; days = tt; leads = tt; reads = listed_by_a_pair c.args.pairs.now }
+dead-end-decides n pairs masks size few tight links b ends = rw (tight, size, ← dead_ends n pairs masks tight links few, ends) refl
 
 pub masks_of-requires : goal.masks_of-requires
-masks_of-requires c k h = omega (arith, all_below c.args.days c.args.pairs.now (sym c.if-is_loose.ensures) k h)
+masks_of-requires c k h =
+    let tight : loose c.args.days c.args.pairs.now ≡ false = search rules in
+    let few : c.args.days ≤ 64 = search rules in
+    omega (arith, all_below c.args.days c.args.pairs.now tight k h)
 
-pub returns-then-has_dead_end : goal.returns-then-has_dead_end
-returns-then-has_dead_end c =
-    let refusal =
-    dead-end-decides c.args.days c.args.pairs.now c.masks_of.result.0 c.if-days-eq0.false c.if-days-gt64.false
-    (sym c.if-is_loose.ensures) c.masks_of.ensures.next true c.if-has_dead_end.ensures in
-    record { refusal = refusal; days = tt; leads = tt; reads = listed_by_a_pair c.args.pairs.now }
+pub returns-then-has_dead_end-clause-refusal : goal.returns-then-has_dead_end-clause-refusal
+returns-then-has_dead_end-clause-refusal c =
+    dead-end-decides c.args.days c.args.pairs.now c.masks_of.result.0 (search rules) (search rules) (search rules) c.masks_of.ensures.next true c.if-has_dead_end.ensures
 
 pub invariant_of-result : goal.invariant_of-result
 invariant_of-result c =
@@ -43,17 +32,13 @@ invariant_of-result c =
     let links = c.masks_of.ensures.next in
     let none = any_none c.args.days (λ d. not (any 64 (masked next d))) (sym c.if-has_dead_end.ensures) in
     record {
-      some = omega arith;
-      few = omega arith;
-      inside = masked_inside c.args.days c.args.pairs.now next (sym c.if-is_loose.ensures) links;
-      back = λ d e. c.masks_of.ensures.prev d e ∙ sym (links e d);
+      some = search rules;
+      few = search rules;
+      inside = masked_inside c.args.days c.args.pairs.now next (search rules) links;
+      back = λ d e. search rules;
       onto = λ d h. masked_low next d (not-false _ (none d h));
     }
 
-pub returns : goal.returns
-returns c =
-    let links = c.masks_of.ensures.next in
-    let refusal =
-    dead-end-decides c.args.days c.args.pairs.now c.masks_of.result.0 c.if-days-eq0.false c.if-days-gt64.false
-    (sym c.if-is_loose.ensures) links false c.if-has_dead_end.ensures in
-    record { refusal = refusal; days = refl; leads = links; reads = listed_by_a_pair c.args.pairs.now }
+pub returns-clause-refusal : goal.returns-clause-refusal
+returns-clause-refusal c =
+    dead-end-decides c.args.days c.args.pairs.now c.masks_of.result.0 (search rules) (search rules) (search rules) c.masks_of.ensures.next false c.if-has_dead_end.ensures
