@@ -1,31 +1,13 @@
 -- Days that circle, step by step: where they go, how many there are, and that only what is below the count matters.
-use Rattle.std.proofs.Common.{◌≡◌, ℕ, zero, suc, ◌+◌, ◌-◌, ◌<◌, ◌≤◌, Bool, true, false, cond, ◌||◌, eqb, List, [], ◌∷◌, ◌++◌, length, get_or, take, set, Some, None, Option, sym, refl, ap, ◌∙◌, ap₂, arith}
-use Rattle.std.proofs.lemmas.List.{take_more, take_more_set, take-set, length_push, length-set}
-use Rattle.std.proofs.lemmas.Bool.{or_left, or_right, or_from, eq-eqb, ne_eqb}
+use Rattle.std.proofs.Common.{◌≡◌, ℕ, zero, suc, ◌+◌, ◌-◌, ◌<◌, ◌≤◌, Bool, true, false, cond, ◌||◌, eqb, List, [], ◌∷◌, ◌++◌, length, take, set, Some, None, Option, sym, refl, ap, ◌∙◌, ap₂, arith}
+use Rattle.std.proofs.lemmas.List.{take_more_set, take-set, length_push, length-set}
+use Rattle.std.specs.List.{list_any}
 use Rattle.model.specs.Showing.{go_on, stands_in, circle}
 
--- one number more at the end
-pub stands_push : (d e : ℕ) (l : List ℕ) → stands_in d (l ++ e ∷ []) ≡ (stands_in d l || eqb e d)
-stands_push d e [] = or_none (eqb e d)
-  where
-    or_none : (b : Bool) → (b || false) ≡ b
-    or_none true = refl
-    or_none false = refl
-stands_push d e (f ∷ l) = ap (λ (b : Bool). eqb f d || b) (stands_push d e l) ∙ or_more (eqb f d) (stands_in d l) (eqb e d)
-  where
-    or_more : (a b c : Bool) → (a || (b || c)) ≡ ((a || b) || c)
-    or_more true b c = refl
-    or_more false b c = refl
-
-pub stands_not_more : (d i : ℕ) (l : List ℕ) → i < length l → stands_in d (take i l) ≡ false → (get_or l i 0 ≡ d → ⊥) → stands_in d (take (i + 1) l) ≡ false
-stands_not_more d i l h before ne =
-    ap (stands_in d) (take_more l i 0 h) ∙ stands_push d (get_or l i 0) (take i l) ∙ or_from (stands_in d (take i l)) (eqb (get_or l i 0) d) before (ne_eqb (get_or l i 0) d ne)
-
--- what stands at a place before the end stands there
-pub stands_at : (d i : ℕ) (l : List ℕ) → i < length l → get_or l i 0 ≡ d → stands_in d l ≡ true
-stands_at d i [] h e = absurd (omega arith)
-stands_at d zero (f ∷ l) h e = or_left (eqb f d) (stands_in d l) (eq-eqb f d e)
-stands_at d (suc i) (f ∷ l) h e = or_right (eqb f d) (stands_in d l) (stands_at d i l (omega arith) e)
+-- whether a day stands among days, as a search through them says it
+pub stands_any : (d : ℕ) (l : List ℕ) → list_any (λ e. eqb e d) l ≡ stands_in d l
+stands_any d [] = refl
+stands_any d (e ∷ es) = ap (λ (b : Bool). eqb e d || b) (stands_any d es)
 
 module _ (next : ℕ → Option ℕ) (awaited : ℕ → Bool) where
   -- one day more

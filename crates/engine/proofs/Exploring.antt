@@ -1,11 +1,10 @@
 -- Why an exploration backwards from the goals finds the shortest ways: each of its moves keeps what is known, and at the end nothing is missing.
-use Rattle.std.proofs.Common.{◌≡◌, ℕ, zero, suc, ◌+◌, ◌<◌, ◌≤◌, Bool, true, false, cond, eqb, ◌≢◌, ◌⊎◌, List, length, set, Some, None, Option, unwrap_or, sym, refl, ap, ◌∙◌, subst, inl, inr, ⊎_elim, add-one, arith}
-use Rattle.std.proofs.lemmas.List.{get_or-set_same, get_or-set_other}
+use Rattle.std.proofs.Common.{◌≡◌, ℕ, zero, suc, ◌+◌, ◌<◌, ◌≤◌, Bool, true, false, cond, eqb, ◌≢◌, ◌⊎◌, List, Some, None, Option, unwrap_or, sym, refl, ap, ◌∙◌, subst, inl, inr, ⊎_elim, add-one, arith}
 use Rattle.std.proofs.lemmas.Bool.{cases_eq, cases_lt, both_ways, eq-eqb, ne_eqb, and_from, and_left, and_right}
 use Rattle.model.specs.Numbers.{tally}
 use Rattle.model.specs.Table.{reaches, rank}
 use Rattle.model.proofs.Ranks.{reaches_step, reaches_by, rank_from, rank_reaches, no_rank}
-use Rattle.engine.specs.Exploring.{step_by, at, Explored}
+use Rattle.engine.specs.Exploring.{step_by, at, PutAt, Explored}
 
 -- tests that agree count the same
 tally_same : (n : ℕ) (t u : ℕ → Bool) → ((k : ℕ) → k < n → u k ≡ t k) → tally n t ≡ tally n u
@@ -54,13 +53,6 @@ module _ (leave : ℕ → Bool) (leads : ℕ → ℕ → Bool) (enter : ℕ → 
 
   pub not_led : leads x y ≡ false → step_by leave leads enter x y ≡ false
   not_led s = and_right (leave x) _ (and_left (leads x y) (enter y) s)
-
--- one place of a list is changed
-pub at_here : (xs ys : List ℕ) (i v : ℕ) → ys ≡ set xs i v → i < length xs → at ys i ≡ v
-at_here xs ys i v e h = rw e (get_or-set_same xs i v 0 h)
-
-pub at_other : (xs ys : List ℕ) (i v : ℕ) → ys ≡ set xs i v → (j : ℕ) → j ≢ i → at ys j ≡ at xs j
-at_other xs ys i v e j ne = rw e (get_or-set_other xs i j v 0 ne)
 
 module _ (n : ℕ) (step : ℕ → ℕ → Bool) (goal : ℕ → Bool) where
   -- before any point is reached
@@ -200,9 +192,6 @@ module _ (n : ℕ) (step : ℕ → ℕ → Bool) (goal : ℕ → Bool) where
     pub one : D y + 1 ≡ value
     pub passed : (x : ℕ) → x < from → step x y ≡ true → (D x < n) × (D x ≤ value)
 
-  pub enter_begin : (D Q : ℕ → ℕ) (head tail : ℕ) → Explored n step goal n D Q head tail → head < tail → Entering D Q head tail (Q head) (D (Q head) + 1) 0
-  enter_begin D Q head tail state some = record { state = state; some = some; here = refl; one = refl; passed = λ x h s. absurd (omega arith) }
-
   module _ (D Q : ℕ → ℕ) (head tail y value from : ℕ) (e : Entering D Q head tail y value from) where
     -- the head and its steps
     pub head_is : (y < n) × (D y < n)
@@ -316,16 +305,16 @@ module _ (n : ℕ) (goal : ℕ → Bool) (x tail : ℕ) (steps queue : List ℕ)
   }
 
   -- one goal more
-  module _ (held : x < length steps) (queue_held : tail < length queue) (steps' queue' : List ℕ) (noted : steps' ≡ set steps x 0) (queued : queue' ≡ set queue tail x) where
+  module _ (steps' queue' : List ℕ) (noted : PutAt x 0 steps steps') (queued : PutAt tail x queue queue') where
     pub begun_more : true ≡ goal x → Begun n goal (x + 1) (tail + 1) steps' queue'
     begun_more is =
-        let here = at_here steps steps' x 0 noted held in
-        let others = at_other steps steps' x 0 noted in
+        let here = noted.0 in
+        let others = noted.1 in
         record {
           state = λ step.
               next_known n step goal x 0 (tail + 1) (at steps') (at queue')
               (one_more n step goal x 0 tail (at steps) (at queue) (begun.state step) x 0 below (begun.later x (omega arith) below) begun.flat (λ _. omega arith) (omega arith) (sym is)
-              (at steps') (at queue') here others (at_here queue queue' tail x queued queue_held) (at_other queue queue' tail x queued))
+              (at steps') (at queue') here others queued.0 queued.1)
               (λ _. here);
           flat = λ k h l.
               ⊎_elim (λ (e : k ≡ x). rw e (omega (arith, here))) (λ (ne : k ≡ x → ⊥). omega (arith, others k ne, begun.flat k h (rw (others k ne) at l))) (cases_eq k x);

@@ -1,57 +1,53 @@
--- One word more, and one row more, of a line that is filled in.
-use Rattle.std.proofs.Common.{◌≡◌, ℕ, ◌+◌, ◌-◌, ◌*◌, ◌<◌, ◌≤◌, ◌≢◌, List, length, get_or, drop, set, sym, refl, ap, ◌∙◌, subst, ap₂, inl, inr, ⊎_elim, add-mul, one-mul, arith}
-use Rattle.std.proofs.lemmas.List.{get_or-set_same, get_or-set_other, get_or-take, get_or-drop}
-use Rattle.std.proofs.lemmas.Bool.{cases_eq, cases_lt}
+-- A part of a list that is written, the rows of a line that is filled in, and the line in its book.
+use Rattle.std.proofs.Common.{◌≡◌, ℕ, ◌+◌, ◌-◌, ◌*◌, ◌<◌, ◌≤◌, List, length, get_or, take, drop, sym, ap, ◌∙◌, ap₂, ⊎_elim, add-mul, one-mul, arith}
+use Rattle.std.proofs.lemmas.List.{get_or-take, get_or-drop, get_or_append_left, get_or-append_right, length-take-le}
+use Rattle.std.proofs.lemmas.Bool.{cases_lt}
 use Rattle.std.proofs.lemmas.Nat.{div-mul-add, mod-mul-add, mul-le}
-use Rattle.std.specs.List.{between}
-use Rattle.model.specs.Table.{says_yes, Plane}
+use borrow.Rule.Slice.PartMut.{put_mid}
+use Rattle.model.specs.Table.{Plane}
 use Rattle.engine.specs.Filling.{Written, in_order}
 
--- nothing written yet
-pub written_none : (base : ℕ) (value : ℕ → ℕ) (old : List ℕ) → Written base 0 value old old
-written_none base value old = record { words = λ k h. absurd (omega arith); others = λ k h. refl }
+-- a list of which the part from a on is written anew
+module _ (a k : ℕ) (xs ys : List ℕ) (held : a + k ≤ length xs) (size : length ys ≡ k) where
+  front : length (take a xs) ≡ a
+  front = length-take-le a xs (omega arith)
 
--- one word more
-pub written_more : (base j v : ℕ) (value : ℕ → ℕ) (old new : List ℕ) → base + j < length new → v ≡ value j → Written base j value old new → Written base (j + 1) value old (set new (base + j) v)
-written_more base j v value old new held is w = record {
-  words = λ k h.
-      ⊎_elim (λ (e : k ≡ j). rw e (get_or-set_same new (base + j) v 0 held ∙ is))
-      (λ (ne : k ≢ j). get_or-set_other new (base + j) (base + k) v 0 (omega arith) ∙ w.words k (omega arith)) (cases_eq k j);
-  others = λ k h. get_or-set_other new (base + j) k v 0 (⊎_elim (λ (l : k < base). omega arith) (λ (l : base + (j + 1) ≤ k). omega arith) h) ∙ w.others k (⊎_elim inl (λ (l : base + (j + 1) ≤ k). inr (omega arith)) h);
+  pub put_before : (i : ℕ) → i < a → get_or (put_mid a k xs ys) i 0 ≡ get_or xs i 0
+  put_before i h = get_or_append_left (take a xs) _ 0 i (omega (arith, front)) ∙ get_or-take a xs i 0 h
+
+  pub put_in : (i : ℕ) → i < k → get_or (put_mid a k xs ys) (a + i) 0 ≡ get_or ys i 0
+  put_in i h =
+      let e : a + i - a ≡ i = omega arith in
+      get_or-append_right (take a xs) _ a (a + i) 0 front (omega arith) ∙ get_or_append_left ys _ 0 (a + i - a) (omega arith) ∙ ap (λ j. get_or ys j 0) e
+
+  pub put_after : (i : ℕ) → a + k ≤ i → get_or (put_mid a k xs ys) i 0 ≡ get_or xs i 0
+  put_after i h =
+      let e : a + (k + (i - a - k)) ≡ i = omega arith in
+      get_or-append_right (take a xs) _ a i 0 front (omega arith) ∙ get_or-append_right ys _ k (i - a) 0 size (omega arith)
+      ∙ get_or-drop k (drop a xs) (i - a - k) 0 ∙ get_or-drop a xs (k + (i - a - k)) 0 ∙ ap (λ j. get_or xs j 0) e
+
+-- the words of a line, written into its part of the book
+pub written_put : (base size : ℕ) (value : ℕ → ℕ) (old line : List ℕ) → base + size ≤ length old → length line ≡ size → ((k : ℕ) → k < size → get_or line k 0 ≡ value k) → Written base size value old (put_mid base size old line)
+written_put base size value old line held is made = record {
+  words = λ k h. put_in base size old line held is k h ∙ made k h;
+  others = λ k h. ⊎_elim (λ (l : k < base). put_before base size old line held is k l) (λ (l : base + size ≤ k). put_after base size old line held is k l) h;
 }
-
--- the values of a stretch and of the next, one after the other
-pub written_join : (base a b : ℕ) (value next : ℕ → ℕ) (old mid new : List ℕ) → ((k : ℕ) → k < b → next k ≡ value (a + k)) → Written base a value old mid → Written (base + a) b next mid new → Written base (a + b) value old new
-written_join base a b value next old mid new same first second = record {
-  words = λ k h.
-      ⊎_elim (λ (l : k < a). second.others (base + k) (inl (omega arith)) ∙ first.words k l)
-      (λ (l : a ≤ k).
-      let e : base + a + (k - a) ≡ base + k = omega arith in
-      let f : a + (k - a) ≡ k = omega arith in
-      ap (λ i. get_or new i 0) (sym e) ∙ second.words (k - a) (omega arith) ∙ same (k - a) (omega arith) ∙ ap value f)
-      (cases_lt k a);
-  others = λ k h. second.others k (⊎_elim (λ (l : k < base). inl (omega arith)) (λ (l : base + (a + b) ≤ k). inr (omega arith)) h)
-      ∙ first.others k (⊎_elim inl (λ (l : base + (a + b) ≤ k). inr (omega arith)) h);
-}
-
--- one day more of a line
-pub day_more : (base d n : ℕ) (plane : Plane) (row : ℕ → ℕ) (old mid new : List ℕ) → ((x : ℕ) → x < n → row x ≡ plane d x) → Written base (d * n) (in_order n plane) old mid → Written (base + d * n) n row mid new → Written base ((d + 1) * n) (in_order n plane) old new
-day_more base d n plane row old mid new same first second =
-    let e : d * n + n ≡ (d + 1) * n = omega (arith, add-mul d 1 n, one-mul n) in
-    subst (λ (size : ℕ). Written base size (in_order n plane) old new) e
-    (written_join base (d * n) n (in_order n plane) row old mid new
-    (λ k h. same k h ∙ sym (ap₂ plane (div-mul-add d n k h) (mod-mul-add d n k h))) first second)
 
 -- the words of a day are among those of all days
 pub day_fits : (d days n : ℕ) → d < days → d * n + n ≤ days * n
 day_fits d days n h = omega (arith, add-mul d 1 n, one-mul n, mul-le (d + 1) n days n (omega arith) (omega arith))
 
--- the same words by another name
-pub written_same : (base size : ℕ) (value value' : ℕ → ℕ) (old new : List ℕ) → ((k : ℕ) → k < size → value k ≡ value' k) → Written base size value old new → Written base size value' old new
-written_same base size value value' old new same w = record { words = λ k h. w.words k h ∙ same k h; others = w.others }
-
--- the answers in a part of a book are those of the book
-pub part_yes : (book : List ℕ) (from size y : ℕ) → y < size → says_yes (get_or (between from (from + size) book) y 0) ≡ says_yes (get_or book (from + y) 0)
-part_yes book from size y h =
-    let e : y < from + size - from = omega arith in
-    ap says_yes (get_or-take (from + size - from) (drop from book) y 0 e ∙ get_or-drop from book y 0)
+-- one day more of a line
+pub row_more : (d n : ℕ) (plane : Plane) (line row : List ℕ) → d * n + n ≤ length line → length row ≡ n → ((x : ℕ) → x < n → get_or row x 0 ≡ plane d x)
+    → ((k : ℕ) → k < d * n → get_or line k 0 ≡ in_order n plane k) → (k : ℕ) → k < (d + 1) * n → get_or (put_mid (d * n) (d * n + n - d * n) line row) k 0 ≡ in_order n plane k
+row_more d n plane line row held is made before k h =
+    let wide : d * n + n - d * n ≡ n = omega arith in
+    rw wide
+    (⊎_elim (λ (l : k < d * n). put_before (d * n) n line row held is k l ∙ before k l)
+    (λ (l : d * n ≤ k).
+    let x = k - d * n in
+    let b : x < n = omega (arith, add-mul d 1 n, one-mul n) in
+    let e : d * n + x ≡ k = omega arith in
+    ap (λ i. get_or (put_mid (d * n) n line row) i 0) (sym e) ∙ put_in (d * n) n line row held is x b ∙ made x b
+    ∙ sym (ap₂ plane (div-mul-add d n x b) (mod-mul-add d n x b)) ∙ ap (in_order n plane) e)
+    (cases_lt k (d * n)))

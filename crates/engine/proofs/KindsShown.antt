@@ -1,6 +1,5 @@
 -- What is shown by words that were read off a book is what is shown by the book's own words.
-use Rattle.std.proofs.Common.{◌≡◌, ℕ, suc, ◌+◌, ◌*◌, ◌<◌, ◌≤◌, Bool, true, false, not, ◌&&◌, List, [], get_or, refl, ap, ◌∙◌, ap₂, mul_assoc, add-mul, arith}
-use Rattle.model.specs.Books.{finding_in}
+use Rattle.std.proofs.Common.{◌≡◌, ℕ, suc, ◌<◌, Bool, true, false, not, ◌&&◌, [], refl, ap, ◌∙◌, ap₂}
 use Rattle.model.specs.Showing.{trace}
 use Rattle.model.specs.Table.{says_yes, number}
 use Rattle.model.proofs.Levels.{least_found}
@@ -8,16 +7,7 @@ use Rattle.model.proofs.Solution.{least_same}
 use Rattle.engine.specs.Exploring.{step_by}
 use Rattle.engine.specs.Strips.{next_no, days_round}
 use Rattle.engine.proofs.Circling.{circle_same}
-use Rattle.engine.proofs.Filled.{day_fits}
-use Rattle.engine.proofs.LineWords.{place_is}
 use Rattle.engine.proofs.Tracing.{trace_same}
-
--- the words of a lower line, and those of one day of a line, end where the line's end or before
-pub line_fits : (l i size held : ℕ) → l < i → i * size + size ≤ held → l * size + size ≤ held
-line_fits l i size held h all = omega (arith, day_fits l i size h)
-
-pub row_fits : (l m d n held : ℕ) → d < m → l * (m * n) + m * n ≤ held → (l * m + d) * n + n ≤ held
-row_fits l m d n held h all = omega (arith, add-mul (l * m) d n, mul_assoc l m n, day_fits d m n h)
 
 module _ (n : ℕ) (leads : ℕ → ℕ → Bool) (left right own left' right' own' : ℕ → ℕ)
     (lefts : (y : ℕ) → y < n → left y ≡ left' y) (rights : (y : ℕ) → y < n → right y ≡ right' y) (owns : (y : ℕ) → y < n → own y ≡ own' y) (x : ℕ) (h : x < n) where
@@ -45,7 +35,3 @@ round_same m after own left own' left' owns lefts d h =
     (λ a ha. least_same m _ _ (λ b hb. ap (λ (w : ℕ). after a b && not (says_yes w)) (owns b hb)))
     (λ a b e. (least_found m (λ f. after a f && not (says_yes (own f))) b e).below)
     (λ a ha. ap says_yes (lefts a ha)) (suc m) [] d h
-
--- a word that was read off a column, where k is the count of days
-pub column_word : (book : List ℕ) (n m k l e x : ℕ) → k ≡ m → get_or book (l * (k * n) + (e * n + x)) 0 ≡ finding_in book n m l e x
-column_word book n m k l e x is = ap (λ (j : ℕ). get_or book (l * (j * n) + (e * n + x)) 0) is ∙ ap (λ (i : ℕ). get_or book i 0) (place_is n m book l e x)

@@ -1,5 +1,6 @@
 pub mod Exploring
 pub mod AllReached
+pub mod Moving
 pub mod Settling
 pub mod Filled
 pub mod MadeWords

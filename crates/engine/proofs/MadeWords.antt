@@ -1,13 +1,12 @@
--- The words that the code makes with remainders are those of the table.
-use Rattle.std.proofs.Common.{◌≡◌, ℕ, ◌-◌, ◌%◌, max, not, ◌||◌, eqb, arith}
-use Rattle.std.proofs.lemmas.Bool.Decides.{nat_tests}
-use Rattle.model.specs.Table.{word, says_yes}
+-- The words that the code makes of remainders and answers are those of the table.
+use Rattle.std.proofs.Common.{◌≡◌, ◌*◌, Bool, true, false, cond, refl}
+use mir.Val.{bool_byte}
+use Rattle.model.specs.Table.{word}
 
-pub bit_word : (v : ℕ) → v % 2 ≡ word (eqb (v % 2) 1) 0
-bit_word v = grind (arith, nat_tests)
+pub yes_made : (b : Bool) → bool_byte b ≡ word b 0
+yes_made true = refl
+yes_made false = refl
 
-pub not_word : (w : ℕ) → 1 - w % 2 ≡ word (not (says_yes w)) 0
-not_word w = grind (arith, nat_tests)
-
-pub or_word : (v w : ℕ) → max (v % 2) (w % 2) ≡ word (says_yes v || says_yes w) 0
-or_word v w = grind (arith, nat_tests)
+pub near_made : (b : Bool) → 3 * bool_byte b ≡ cond b 3 0
+near_made true = refl
+near_made false = refl

@@ -10,7 +10,7 @@ use Rattle.model.proofs.Fixpoints.{highest_from, highest_gives}
 use Rattle.model.proofs.Levels.{least_found, least_is, least_is_none, tally_more}
 use Rattle.model.proofs.Numbers.{any_from, any_gives, any_none, highest_over}
 use Rattle.model.proofs.Ranks.{sure_next, sure_by, wait_from, wait_reaches}
-use Rattle.engine.specs.Settling.{awaited_in, open_in, Marked, Sound, Settled, KeptFrom, next_wait, open_count, AtRest, Passed}
+use Rattle.engine.specs.Settling.{awaited_in, open_in, Marked, Sound, Settled, next_wait, open_count, AtRest, Passed}
 
 -- numbers of which none passes are passed over
 pub any_over : (from n : ℕ) (test : ℕ → Bool) → from ≤ n → any from test ≡ false → ((k : ℕ) → from ≤ k → k < n → test k ≡ false) → any n test ≡ false
@@ -179,7 +179,6 @@ module _ (n : ℕ) (after : ℕ → ℕ → Bool) (d : ℕ) (before waits : List
       record {
         sound = λ e l. ⊎_elim (λ (s : e ≡ d). inr (rw (s, here) new)) (λ (ne : e ≡ d → ⊥). rw (get_or-set_other waits d e k 0 ne) (passed.sound e l)) (cases_eq e d);
         same = λ e. ⊎_elim (λ (s : e ≡ d). rw s (ne_eqb (get_or (set waits d k) d 0) 0 (omega arith) ∙ sym not_before)) (λ (ne : e ≡ d → ⊥). ap (λ x. eqb x 0) (get_or-set_other waits d e k 0 ne) ∙ passed.same e) (cases_eq e d);
-        kept = λ e l. get_or-set_other waits d e k 0 (omega arith) ∙ passed.kept e l;
         went = omega (arith, fewer_open n waits d k room h o below, went_on changed passed.went);
       }
 
@@ -191,9 +190,6 @@ module _ (n : ℕ) (after : ℕ → ℕ → Bool) (first before waits : List ℕ
 
   pub same_on : (e : ℕ) → awaited_in waits e ≡ awaited_in first e
   same_on e = passed.same e ∙ same e
-
-  pub kept_on : KeptFrom n first before → KeptFrom n first waits
-  kept_on kept d h = passed.kept d h ∙ kept d h
 
 -- a pass that changes nothing has all waits settled
 pub settled_at_rest : (n : ℕ) (after : ℕ → ℕ → Bool) → Inside n after → Unending n after → 1 ≤ n → (first before waits : List ℕ) → Passed n after 0 before waits false

@@ -1,7 +1,7 @@
 -- Why an entry is not shown: the words that fail come last, and what is in order where nothing else is amiss.
-use Rattle.std.proofs.Common.{◌≡◌, ℕ, ◌*◌, ◌<◌, ◌≤◌, Bool, true, false, not, ◌||◌, eqb, ltb, List, [], length, is_some, Some, None, Ok, Err, Option, Result, unwrap_or, sym, refl, ap, ◌∙◌, subst, ap₂, arith, MatchOption}
+use Rattle.std.proofs.Common.{◌≡◌, ℕ, ◌*◌, ◌<◌, ◌≤◌, Bool, true, false, not, ◌||◌, eqb, ltb, List, [], length, is_some, Some, None, Ok, Err, Option, Result, unwrap_or, sym, refl, ap, ◌∙◌, subst, ap₂, arith}
 use Rattle.std.proofs.lemmas.Bool.{and_parts, or_parts, not-false, eqb-true, ltb-true, ltb-false}
-use Rattle.std.specs.Option.{option_map}
+use Rattle.std.specs.Option.{option_map, ok_or}
 use Rattle.model.specs.declared.kind.KindRow.{KindRow}
 use Rattle.model.specs.declared.line.Line.{Line}
 use Rattle.model.specs.declared.refusal.Refusal.{Refusal}
@@ -113,23 +113,22 @@ module _ (points days count n : ℕ) (leads : ℕ → ℕ → Bool) (m : ℕ) (a
     strip = b ∙ ap (λ (o : Option Refusal). unless_refused o (written_on (unwrap_or (book_trail points leads days after lines findings i d x) []) old) old) (sym e);
   }
 
-  pub refused_early : (early : Option Refusal) → early ≡ book_refusal points days count n m lines findings i d x (length old) (Some [])
-      → MatchOption early (book_refusal points days count n m lines findings i d x (length old) (Some []) ≡ None) (λ why. Shown points days count n leads m after lines findings i d x old old (Err why))
-  refused_early None e = sym e
-  refused_early (Some why) e =
-      by_refusal (Some why) old (Err why) (last ∙ ap (λ (o : Option Refusal). or_else o (where_so (not (is_some (book_trail points leads days after lines findings i d x))) FalseEntry)) (sym e)) refl refl
-
   module _ (none : book_refusal points days count n m lines findings i d x (length old) (Some []) ≡ None) where
     by_words : (b : Bool) → is_some (book_trail points leads days after lines findings i d x) ≡ b
         → book_refusal points days count n m lines findings i d x (length old) (book_trail points leads days after lines findings i d x) ≡ where_so (not b) FalseEntry
     by_words b e = last ∙ ap₂ (λ (o : Option Refusal) (t : Bool). or_else o (where_so (not t) FalseEntry)) none e
 
-    pub shown_so : (new : List ℕ) (k : ℕ) → Put (book_trail points leads days after lines findings i d x) old new (Some k) → Shown points days count n leads m after lines findings i d x old new (Ok k)
+    shown_so : (new : List ℕ) (k : ℕ) → Put (book_trail points leads days after lines findings i d x) old new (Some k) → Shown points days count n leads m after lines findings i d x old new (Ok k)
     shown_so new k put =
         let c = counted k (book_trail points leads days after lines findings i d x) put.count in
         by_refusal None new (Ok k) (by_words true c.0) (ap Ok c.1) put.strip
 
-    pub fails_so : (new : List ℕ) → Put (book_trail points leads days after lines findings i d x) old new None → Shown points days count n leads m after lines findings i d x old new (Err FalseEntry)
+    fails_so : (new : List ℕ) → Put (book_trail points leads days after lines findings i d x) old new None → Shown points days count n leads m after lines findings i d x old new (Err FalseEntry)
     fails_so new put =
         let c = nothing (book_trail points leads days after lines findings i d x) put.count in
         by_refusal (Some FalseEntry) new (Err FalseEntry) (by_words false (ap is_some c)) refl (put.strip ∙ ap (λ (o : Option (List ℕ)). written_on (unwrap_or o []) old) c)
+
+    -- the answer, by what was written
+    pub shown_by : (new : List ℕ) (r : Option ℕ) → Put (book_trail points leads days after lines findings i d x) old new r → Shown points days count n leads m after lines findings i d x old new (ok_or r FalseEntry)
+    shown_by new (Some k) put = shown_so new k put
+    shown_by new None put = fails_so new put

@@ -1,29 +1,35 @@
 -- A trace step by step: where it goes, how long it is, and that only words, steps and goals below the count matter.
-use Rattle.std.proofs.Common.{◌≡◌, ℕ, zero, suc, ◌+◌, ◌-◌, ◌<◌, ◌≤◌, Bool, true, false, cond, ◌&&◌, eqb, List, [], ◌∷◌, ◌++◌, length, take, drop, set, is_some, Some, None, Option, unwrap_or, sym, refl, ap, ◌∙◌, subst, ap₂, ⊎_elim, arith}
+use Rattle.std.proofs.Common.{IfSome, ◌≡◌, ℕ, zero, suc, ◌+◌, ◌-◌, ◌<◌, Bool, true, false, cond, ◌&&◌, eqb, List, [], ◌∷◌, ◌++◌, length, take, drop, set, is_some, Some, None, Option, unwrap_or, sym, refl, ap, ◌∙◌, subst, ap₂, ⊎_elim, arith}
 use Rattle.std.proofs.lemmas.List.{append_assoc, take-append-drop, take_more_set, drop-set-lt, drop_more}
-use Rattle.std.proofs.lemmas.Bool.{and_from, and_left, and_right, both_ways, cases_Bool, cases_lt}
+use Rattle.std.proofs.lemmas.Bool.{and_left, both_ways, cases_Bool}
+use denote.Param.Members.{Mut}
+use denote.Ref.{Bor}
+use Rattle.std.specs.Fn.{CalledAt}
+use Rattle.std.specs.Iterator.{YieldsThen}
+use Rattle.std.specs.List.{FoldsTo}
 use Rattle.std.specs.Option.{option_map}
 use Rattle.model.specs.Numbers.{least, Least}
 use Rattle.model.specs.Showing.{go_on, trace, written_on}
 use Rattle.model.specs.Table.{word}
 use Rattle.model.proofs.Levels.{least_found, least_is, least_is_none}
 use Rattle.model.proofs.Solution.{least_same}
+use Rattle.model.specs.Relations.{MovesOn}
+use Rattle.model.proofs.GoingThrough.{find_on}
 use Rattle.engine.specs.Exploring.{step_by}
 
--- the points to which one leads, gone through in ascending order from `from` on, those before having failed: the first that passes, or none
-module _ (n : ℕ) (lead pass : ℕ → Bool) (from : ℕ) (failed : (z : ℕ) → z < from → lead z ≡ true → pass z ≡ false) where
-  fails : (z : ℕ) → (lead z ≡ true → pass z ≡ false) → (lead z && pass z) ≡ false
-  fails z f = ⊎_elim (λ (t : lead z ≡ true). and_right (lead z) (pass z) (f t)) (λ (e : lead z ≡ false). and_left (lead z) (pass z) e) (cases_Bool (lead z))
+-- the least number that passes, as a function says it
+least_of : (n : ℕ) (test : ℕ → Bool) (r : Option ℕ) → Least test 0 n r → r ≡ least n test
+least_of n test None none = sym (least_is_none n test (λ z h. none z (omega arith) h))
+least_of n test (Some y) here = sym (least_is n test y (record { below = here.1; passes = here.2; first = λ z h. here.3 z (omega arith) h }))
 
-  fails_before : (y z : ℕ) → ((k : ℕ) → from ≤ k → k < y → lead k ≡ false) → z < y → (lead z && pass z) ≡ false
-  fails_before y z skipped h =
-      ⊎_elim (λ (b : z < from). fails z (failed z b)) (λ (b : from ≤ z). and_left (lead z) (pass z) (skipped z b h)) (cases_lt z from)
-
-  pub first_passes : (y : ℕ) → Least lead from n (Some y) → pass y ≡ true → Some y ≡ least n (λ z. lead z && pass z)
-  first_passes y here p = sym (least_is n (λ z. lead z && pass z) y (record { below = here.1; passes = and_from _ _ here.2 p; first = λ z h. fails_before y z here.3 h }))
-
-  pub none_passes : Least lead from n None → None ≡ least n (λ z. lead z && pass z)
-  none_passes none = sym (least_is_none n (λ z. lead z && pass z) (λ z h. fails_before n z none h))
+-- what `find` answers over a row of n numbers that is gone through from the start: the least of them that passes
+pub find_met : {S F : Type 0} (points : S → ℕ) (row : S → ℕ → Bool) (from : S → ℕ) {g : Mut F (Bor ℕ × Unit {0}) Bool} {f : F} {s : S} {r : Option ℕ} (u : S) (n : ℕ) (w test : ℕ → Bool)
+    → from s ≡ 0 → points s ≡ n → row s ≡ w
+    → (xs : List ℕ) × (j : F) × YieldsThen (MovesOn points row from) s xs r u × FoldsTo (λ p x q. CalledAt g p x false q) f xs j × IfSome r (λ x. (h : F) × CalledAt g j x true h)
+    → ((x : ℕ) (q : F) → CalledAt g f x true q → test x ≡ true) → ((x : ℕ) (q : F) → CalledAt g f x false q → (q ≡ f) × (test x ≡ false))
+    → r ≡ least n (λ k. w k && test k)
+find_met points row from {g} {f} {s} {r} u n w test z e h ran passes fails =
+    least_of _ _ r (find_on points row from g test f s u r z ran passes fails) ∙ ap₂ (λ m v. least m (λ k. v k && test k)) e h
 
 -- a step where x may be left, and none where it may not
 same_test : (a b c d : Bool) → a ≡ true → (b && (c && d)) ≡ ((a && (b && c)) && d)

@@ -1,5 +1,5 @@
 -- The words of ways out and of beginnings, by the steps that the exploration finds.
-use Rattle.std.proofs.Common.{◌≡◌, ℕ, zero, suc, ◌<◌, ◌≤◌, Bool, true, false, cond, not, ◌&&◌, eqb, ◌⊎◌, Some, None, Option, unwrap_or, sym, refl, ap, ◌∙◌, ap₂, inl, inr, ⊎_elim, arith}
+use Rattle.std.proofs.Common.{◌≡◌, ℕ, zero, suc, ◌<◌, ◌≤◌, Bool, true, false, cond, not, ◌&&◌, eqb, Some, None, Option, unwrap_or, sym, refl, ap, ◌∙◌, ap₂, ⊎_elim, arith}
 use Rattle.std.proofs.lemmas.Bool.{cases_Bool, both_ways, lt-ltb, le-ltb, ne_eqb}
 use Rattle.model.specs.Numbers.{least}
 use Rattle.model.specs.Table.{no_word, yes_word, rank, reaches, surrounded_word, until_word, sure, wait, awaited_word}
@@ -82,10 +82,6 @@ mark_tells m false some = ne_eqb m 0 (omega arith)
 
 pub mark_awaited : (m v : ℕ) (b : Bool) → 1 ≤ m → v ≡ cond b 0 m → eqb v 0 ≡ b
 mark_awaited m v b some e = ap (λ w. eqb w 0) e ∙ mark_tells m b some
-
-pub mark_either : (m v : ℕ) (b : Bool) → v ≡ cond b 0 m → (v ≡ 0) ⊎ (v ≡ m)
-mark_either m v true e = inl e
-mark_either m v false e = inr e
 
 -- the words that the settled waits give are those of the table
 pub waits_are : (m : ℕ) (after : ℕ → ℕ → Bool) (left left' : ℕ → Bool) (waits : ℕ → ℕ)

@@ -1,5 +1,5 @@
 -- Shortest ways: the steps that are allowed, and how far an exploration backwards from the goals has come.
-use Rattle.std.specs.Prelude.{◌≡◌, ℕ, ◌+◌, ◌<◌, ◌≤◌, Bool, true, ◌&&◌, List, nat_eq, slice_index}
+use Rattle.std.specs.Prelude.{◌≡◌, ℕ, ◌+◌, ◌<◌, ◌≤◌, Bool, true, ◌&&◌, List, ◌≢◌, nat_eq, slice_index}
 use Rattle.model.specs.Numbers.{tally}
 use Rattle.model.specs.Table.{reaches}
 
@@ -11,9 +11,9 @@ step_by leave leads enter x y = leave x && (leads x y && enter y)
 abbrev pub at : List ℕ → ℕ → ℕ
 at xs i = slice_index xs i
 
--- from place n on the second list is as the first
-abbrev pub SameFrom : ℕ → List ℕ → List ℕ → Type 0
-SameFrom n xs ys = (k : ℕ) → n ≤ k → slice_index ys k ≡ slice_index xs k
+-- place i holds v, and every other place what it held
+abbrev pub PutAt : ℕ → ℕ → List ℕ → List ℕ → Type 0
+PutAt i v xs ys = (slice_index ys i ≡ v) × ((k : ℕ) → k ≢ i → slice_index ys k ≡ slice_index xs k)
 
 -- How far an exploration of n points has come. A point is reached where its steps are fewer than n; the queue holds the reached points in the
 -- order in which they were reached, and those before the head have brought in all from which a step leads to them. Only private functions

@@ -24,10 +24,6 @@ Sound n after awaited waits = (d : ℕ) → d < n → (slice_index waits d ≡ n
 abbrev pub Settled : ℕ → (ℕ → ℕ → Bool) → (ℕ → Bool) → List ℕ → Type 0
 Settled n after awaited waits = (d : ℕ) → d < n → slice_index waits d ≡ unwrap_or (wait n after awaited d) n
 
--- every place from n on is as it was
-abbrev pub KeptFrom : ℕ → List ℕ → List ℕ → Type 0
-KeptFrom n before waits = (d : ℕ) → n ≤ d → slice_index waits d ≡ slice_index before d
-
 -- one more than the highest number among the days after d, where all are settled
 abbrev pub next_wait : ℕ → (ℕ → ℕ → Bool) → List ℕ → ℕ → Option ℕ
 next_wait n after waits d =
@@ -47,6 +43,5 @@ pub record Passed (n : ℕ) (after : ℕ → ℕ → Bool) (d : ℕ) (before wai
   pub sound : Sound n after (awaited_in before) waits
   -- the same days are awaited
   pub same : (e : ℕ) → awaited_in waits e ≡ awaited_in before e
-  pub kept : KeptFrom n before waits
   -- fewer days are left, or nothing is changed
   pub went : MatchBool changed (open_count n waits < open_count n before) (AtRest n after d before waits)

@@ -1,44 +1,33 @@
 // Ask and show: the yes or no and the number of one entry, and what proves it.
 ghost use Rattle.std.specs.Prelude.{◌≡◌, ◌*◌, ◌<◌, ◌≤◌, length};
+ghost use Rattle.std.specs.Result.{result_err};
 ghost use Rattle.model.specs.Books.{finding_in};
 ghost use Rattle.model.specs.Calls.{answer, ask_refusal, finding_of};
 ghost use Rattle.model.specs.Showing.{Shown};
 
-use crate::showing::show_entry;
+use crate::showing::Asked;
 use crate::survey::Worked;
 use model::{Calendar, Finding, Floor, Line, Place, Refusal, SurveyNumbers};
 
-// Why there is no such entry in a findings book of that length.
-fn ask_refusal(
-    numbers: SurveyNumbers,
-    held: usize,
-    line: usize,
-    day: usize,
-    point: usize,
-) -> Option<Refusal>
-    ensures { result ≡ ask_refusal numbers.points numbers.days numbers.lines held line day point }
+// Whether there is such an entry in a findings book of that length, or why not.
+pub(crate) fn check_entry(numbers: SurveyNumbers, held: usize, at: Place) -> Result<(), Refusal>
+    ensures { result_err result ≡ ask_refusal numbers.points numbers.days numbers.lines held at.line at.day at.point }
 {
-    if held < numbers.lines * (numbers.days * numbers.points) {
-        return Some(Refusal::ShortBook);
+    if held < numbers.lines * numbers.size() {
+        return Err(Refusal::ShortBook);
     }
-    if line >= numbers.lines || day >= numbers.days || point >= numbers.points {
-        return Some(Refusal::OutOfRange);
+    if at.line >= numbers.lines || at.day >= numbers.days || at.point >= numbers.points {
+        return Err(Refusal::OutOfRange);
     }
-    None
+    Ok(())
 }
 
 // The word of an entry.
-pub(crate) fn word_at(
-    numbers: SurveyNumbers,
-    findings: &[u32],
-    line: usize,
-    day: usize,
-    point: usize,
-) -> u32
-    requires { (numbers.lines * (numbers.days * numbers.points) ≤ length findings.now) × ((line < numbers.lines) × ((day < numbers.days) × (point < numbers.points))) }
-    ensures { result ≡ finding_in findings.now numbers.points numbers.days line day point }
+pub(crate) fn word_at(numbers: SurveyNumbers, findings: &[u32], at: Place) -> u32
+    requires { (numbers.lines * (numbers.days * numbers.points) ≤ length findings.now) × ((at.line < numbers.lines) × ((at.day < numbers.days) × (at.point < numbers.points))) }
+    ensures { result ≡ finding_in findings.now numbers.points numbers.days at.line at.day at.point }
 {
-    findings[(line * numbers.days + day) * numbers.points + point]
+    findings[(at.line * numbers.days + at.day) * numbers.points + at.point]
 }
 
 impl Worked {
@@ -52,17 +41,13 @@ impl Worked {
     ) -> Result<Finding, Refusal>
         ensures { result ≡ answer (ask_refusal self.now.numbers.points self.now.numbers.days self.now.numbers.lines (length findings.now) line day point) (finding_of (finding_in findings.now self.now.numbers.points self.now.numbers.days line day point)) }
     {
-        if let Some(why) = ask_refusal(self.numbers, findings.len(), line, day, point) {
-            return Err(why);
-        }
-        let word = word_at(self.numbers, findings, line, day, point);
-        Ok(Finding {
-            yes: word % 2 == 1,
-            number: word / 2,
-        })
+        let at = Place { line, day, point };
+        check_entry(self.numbers, findings.len(), at)?;
+        Ok(Finding::from(word_at(self.numbers, findings, at)))
     }
 
-    // Writes to the strip what proves an entry, by the findings book's words, and answers how many numbers it wrote.
+    // Writes to the strip what proves an entry, by the findings book's words, and answers how many numbers it wrote. Floor, calendar and
+    // books are taken one by one: a rule of the project.
     pub fn show<F: Floor, C: Calendar>(
         &self,
         floor: &F,
@@ -76,7 +61,14 @@ impl Worked {
     ) -> Result<usize, Refusal>
         ensures { Shown self.now.numbers.points self.now.numbers.days self.now.numbers.lines (F.Floor.points floor.now) (F.Floor.leads floor.now) (C.Floor.points calendar.now) (C.Floor.leads calendar.now) lines.now findings.now line day point strip.old strip.new result }
     {
-        let at = Place { line, day, point };
-        show_entry(self.numbers, floor, calendar, lines, findings, at, strip)
+        let asked = Asked {
+            numbers: self.numbers,
+            floor,
+            calendar,
+            lines,
+            findings,
+            at: Place { line, day, point },
+        };
+        asked.show(strip)
     }
 }

@@ -4,8 +4,9 @@ ghost use Rattle.std.specs.Result.{result_err};
 ghost use Rattle.model.specs.Books.{model_of, WorkedOut};
 ghost use Rattle.model.specs.Refusals.{whole_refusal};
 
-use crate::filling::fill_lines;
-use model::{Calendar, Floor, Line, Refusal, SurveyNumbers, whole_refusal};
+use crate::exploration::Room;
+use crate::filling::Store;
+use model::{Calendar, Floor, Line, Refusal, SurveyNumbers, check_whole};
 
 // Writes every entry, where everything is in order for it.
 fn fill_entries<F: Floor, C: Calendar>(
@@ -19,21 +20,16 @@ fn fill_entries<F: Floor, C: Calendar>(
     requires { whole_refusal numbers.points numbers.days numbers.lines (F.Floor.points floor.now) (C.Floor.points calendar.now) (length readings.now) lines.now (length findings.old) ≡ None }
     ensures { WorkedOut (model_of (F.Floor.points floor.now) (F.Floor.leads floor.now) (C.Floor.points calendar.now) (C.Floor.leads calendar.now) readings.now) lines.now numbers.lines findings.old findings.new }
 {
-    let mut steps = [0u16; 4096];
-    let mut queue = [0u16; 4096];
-    fill_lines(
+    let store = Store {
         floor,
         calendar,
         readings,
-        lines,
-        numbers.lines,
-        findings,
-        &mut steps,
-        &mut queue,
-    );
+    };
+    store.fill_lines(lines, numbers.lines, findings, &mut Room::new());
 }
 
-// Writes every entry of a survey of so many points, days and lines; a refusal changes nothing.
+// Writes every entry of a survey of so many points, days and lines; a refusal changes nothing. Floor, calendar and books are taken one by
+// one: a rule of the project.
 pub(crate) fn fill_book<F: Floor, C: Calendar>(
     numbers: SurveyNumbers,
     floor: &F,
@@ -46,9 +42,7 @@ pub(crate) fn fill_book<F: Floor, C: Calendar>(
     ensures worked { OnOk result (WorkedOut (model_of (F.Floor.points floor.now) (F.Floor.leads floor.now) (C.Floor.points calendar.now) (C.Floor.leads calendar.now) readings.now) lines.now numbers.lines findings.old findings.new) }
     ensures kept { OnErr result (findings.new ≡ findings.old) }
 {
-    if let Some(why) = whole_refusal(numbers, floor, calendar, readings, lines, findings) {
-        return Err(why);
-    }
+    check_whole(numbers, floor, calendar, readings, lines, findings)?;
     fill_entries(numbers, floor, calendar, readings, lines, findings);
     Ok(())
 }

@@ -1,4 +1,5 @@
-// Showing days that circle: from each day to the least next day answered no, up to and with the first repeated one. Nothing is written unless all of it holds.
+// Showing days that circle: from each day to the least next day answered no, up to and with the first repeated one. Nothing is written
+// unless all of it holds.
 ghost use Rattle.std.specs.Prelude.{◌≡◌, ◌<◌, ◌≤◌, length, take};
 ghost use Rattle.std.specs.Option.{option_map};
 ghost use Rattle.model.specs.Showing.{stands_in, written_on};
@@ -8,7 +9,7 @@ ghost use Rattle.engine.specs.Strips.{Put, next_no, days_round};
 use crate::words::is_yes;
 use model::Calendar;
 
-// The days gone through: the first `count` of the array.
+// The days gone through: the first `count` of the array, each written by its index. The crate has no heap, so it makes no list that grows.
 #[derive(Clone, Copy)]
 struct Round {
     days: [u32; 65],
@@ -16,34 +17,22 @@ struct Round {
     ghost few: { count ≤ 65 },
 }
 
-// Whether the day stands among the first `count`.
-fn stands_in(days: &[u32], count: usize, d: usize) -> bool
-    requires { count ≤ length days.now }
-    ensures { result ≡ stands_in d (take count days.now) }
+// Whether the day stands among these.
+fn stands_in(days: &[u32], d: usize) -> bool
+    ensures { result ≡ stands_in d days.now }
 {
-    for i in 0..count {
-        if days[i] as usize == d {
-            return true;
-        }
-    }
-    false
+    days.iter().any(|e| *e as usize == d)
 }
 
 // The least next day answered no.
 fn next_no<C: Calendar>(calendar: &C, own: &[u32], d: usize) -> Option<usize>
     ensures { result ≡ next_no (C.Floor.points calendar.now) (C.Floor.leads calendar.now) (at own.now) d }
 {
-    let mut from = 0;
-    while let Some(e) = calendar.onward(d, from) {
-        if !is_yes(own, e) {
-            return Some(e);
-        }
-        from = e + 1;
-    }
-    None
+    calendar.after(d).find(|e| !is_yes(own, *e))
 }
 
-// The days from `start` on; none where one of them is awaited or has no next day answered no.
+// The days from `start` on; none where one of them is awaited or has no next day answered no. Each turn goes on from the day that the last
+// one found, and writes it by its index, since a proof loses what is written through `iter_mut`.
 fn go_round<C: Calendar>(calendar: &C, own: &[u32], left: &[u32], start: usize) -> Option<Round>
     requires { (C.Floor.points calendar.now ≤ 64) × (start < C.Floor.points calendar.now) }
     ensures { option_map (λ w. take w.count w.days) result ≡ days_round (C.Floor.points calendar.now) (C.Floor.leads calendar.now) (at own.now) (at left.now) start }
@@ -52,16 +41,13 @@ fn go_round<C: Calendar>(calendar: &C, own: &[u32], left: &[u32], start: usize) 
     let mut d = start;
     for i in 0..calendar.count() + 1 {
         days[i] = d as u32;
-        if stands_in(&days, i, d) {
+        if stands_in(&days[..i], d) {
             return Some(Round { days, count: i + 1 });
         }
         if is_yes(left, d) {
             return None;
         }
-        let Some(e) = next_no(calendar, own, d) else {
-            return None;
-        };
-        d = e;
+        d = next_no(calendar, own, d)?;
     }
     None
 }
@@ -85,9 +71,7 @@ pub(crate) fn show_circle<C: Calendar>(
     requires { (C.Floor.points calendar.now ≤ 64) × ((start < C.Floor.points calendar.now) × (C.Floor.points calendar.now < length strip.old)) }
     ensures { Put (days_round (C.Floor.points calendar.now) (C.Floor.leads calendar.now) (at own.now) (at left.now) start) strip.old strip.new result }
 {
-    let Some(round) = go_round(calendar, own, left, start) else {
-        return None;
-    };
+    let round = go_round(calendar, own, left, start)?;
     write_front(&round.days[..round.count], strip);
     Some(round.count)
 }

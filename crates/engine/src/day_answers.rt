@@ -5,8 +5,8 @@ ghost use Rattle.model.specs.Masks.{bit};
 use crate::exploration::Rules;
 use crate::words::is_set;
 
-// Beginnings of runs: over days with left yes to one with right yes. The two parts are left's and right's answers at one point, a bit for each
-// day.
+// Beginnings of runs: over days with left yes to one with right yes. The two parts are left's and right's answers at one point, a bit for
+// each day.
 #[derive(Clone, Copy)]
 pub(crate) struct DayAnswers {
     pub(crate) left: u64,

@@ -1,9 +1,9 @@
 // Shortest ways over any floor, by one exploration backwards from the goals.
-ghost use Rattle.std.specs.Prelude.{◌≡◌, ℕ, ◌+◌, ◌<◌, ◌≤◌, Bool, ◌||◌, length, slice_index, slice_set};
+ghost use Rattle.std.specs.Prelude.{◌≡◌, ℕ, ◌+◌, ◌<◌, ◌≤◌, Bool, ◌||◌, slice_index};
 ghost use Rattle.std.specs.Option.{unwrap_or};
 ghost use Rattle.model.specs.Numbers.{tally};
 ghost use Rattle.model.specs.Table.{rank};
-ghost use Rattle.engine.specs.Exploring.{step_by, at, SameFrom, Explored};
+ghost use Rattle.engine.specs.Exploring.{step_by, at, PutAt, Explored};
 
 use model::Floor;
 
@@ -31,135 +31,104 @@ pub(crate) trait Rules {
         ensures { result ≡ enter self.now x };
 }
 
-// Marks every point as not reached: with the number of points for its steps.
-fn forget(steps: &mut [u16], count: usize)
-    requires { (count ≤ length steps.old) × (count ≤ 4096) }
-    ensures none { (x : ℕ) → x < count → slice_index steps.new x ≡ count }
-    ensures rest { SameFrom count steps.old steps.new }
-{
-    for x in 0..count {
-        steps[x] = count as u16;
+// The room of an exploration: each point's steps, and a queue at whose front stand the points that are reached, so many of them. Both are
+// arrays, since the crate has no heap. The kind F keeps its waits in `steps`.
+// The count of points stands for the steps of a point that is not reached: an array of options was tried, and takes 1.2 to 3.1 times as
+// long.
+// Floor, rules and room are passed one by one: a struct of two `&` and a `&mut` would be made for three functions only.
+#[derive(Drop)]
+pub(crate) struct Room {
+    pub(crate) steps: [u16; 4096],
+    queue: [u16; 4096],
+    reached: usize,
+}
+
+impl Room {
+    // Room for any floor.
+    pub(crate) fn new() -> Room {
+        Room {
+            steps: [0; 4096],
+            queue: [0; 4096],
+            reached: 0,
+        }
+    }
+
+    // One point more is reached, by so many steps.
+    fn reach(&mut self, x: usize, value: u16)
+        requires { (self.old.reached < 4096) × (x < 4096) }
+        ensures noted { PutAt x value self.old.steps self.new.steps }
+        ensures queued { PutAt self.old.reached x self.old.queue self.new.queue }
+        ensures counted { self.new.reached ≡ self.old.reached + 1 }
+    {
+        self.steps[x] = value;
+        self.queue[self.reached] = x as u16;
+        self.reached += 1;
     }
 }
 
-// Notes the steps of a point that is reached, and puts it at the end of the queue.
-fn reach(steps: &mut [u16], queue: &mut [u16], tail: usize, x: usize, value: u16)
-    requires { (x < length steps.old) × ((tail < length queue.old) × (x < 4096)) }
-    ensures noted { steps.new ≡ slice_set steps.old x value }
-    ensures queued { queue.new ≡ slice_set queue.old tail x }
+// Reaches every goal, by 0 steps.
+fn reach_goals<R: Rules>(rules: &R, room: &mut Room, count: usize)
+    requires few { count ≤ 4096 }
+    requires none { ((x : ℕ) → x < count → slice_index room.old.steps x ≡ count) × (room.old.reached ≡ 0) }
+    ensures { (step : ℕ → ℕ → Bool) → Explored count step (R.Rules.goal rules.now) count (at room.new.steps) (at room.new.queue) 0 room.new.reached }
 {
-    steps[x] = value;
-    queue[tail] = x as u16;
-}
-
-// Reaches every goal, by 0 steps. The answer is how many there are.
-fn reach_goals<R: Rules>(rules: &R, steps: &mut [u16], queue: &mut [u16], count: usize) -> usize
-    requires room { (count ≤ length steps.old) × ((count ≤ length queue.old) × (count ≤ 4096)) }
-    requires none { (x : ℕ) → x < count → slice_index steps.old x ≡ count }
-    ensures goals { (step : ℕ → ℕ → Bool) → Explored count step (R.Rules.goal rules.now) count (at steps.new) (at queue.new) 0 result }
-    ensures rest { SameFrom count steps.old steps.new }
-{
-    let mut tail = 0;
     for x in 0..count {
         if rules.is_goal(x) {
-            reach(steps, queue, tail, x, 0);
-            tail += 1;
+            room.reach(x, 0);
         }
     }
-    tail
 }
 
-// Reaches every point from which one step leads to the point at the head of the queue. The answer is where the queue then ends.
-fn reach_before<F: Floor, R: Rules>(
-    floor: &F,
-    rules: &R,
-    steps: &mut [u16],
-    queue: &mut [u16],
-    head: usize,
-    end: usize,
-) -> usize
-    requires room { (F.Floor.points floor.now ≤ length steps.old) × ((F.Floor.points floor.now ≤ length queue.old) × (head < end)) }
-    requires state { Explored (F.Floor.points floor.now) (step_by (R.Rules.leave rules.now) (F.Floor.leads floor.now) (R.Rules.enter rules.now)) (R.Rules.goal rules.now) (F.Floor.points floor.now) (at steps.old) (at queue.old) head end }
-    ensures state { Explored (F.Floor.points floor.now) (step_by (R.Rules.leave rules.now) (F.Floor.leads floor.now) (R.Rules.enter rules.now)) (R.Rules.goal rules.now) (F.Floor.points floor.now) (at steps.new) (at queue.new) (head + 1) result }
-    ensures rest { SameFrom (F.Floor.points floor.now) steps.old steps.new }
+// Reaches every point from which one step leads to the point at the head of the queue.
+fn reach_before<F: Floor, R: Rules>(floor: &F, rules: &R, room: &mut Room, head: usize)
+    requires head { head < room.old.reached }
+    requires state { Explored (F.Floor.points floor.now) (step_by (R.Rules.leave rules.now) (F.Floor.leads floor.now) (R.Rules.enter rules.now)) (R.Rules.goal rules.now) (F.Floor.points floor.now) (at room.old.steps) (at room.old.queue) head room.old.reached }
+    ensures { Explored (F.Floor.points floor.now) (step_by (R.Rules.leave rules.now) (F.Floor.leads floor.now) (R.Rules.enter rules.now)) (R.Rules.goal rules.now) (F.Floor.points floor.now) (at room.new.steps) (at room.new.queue) (head + 1) room.new.reached }
 {
     let count = floor.count();
-    let y = queue[head] as usize;
-    let mut tail = end;
+    let y = room.queue[head] as usize;
     if rules.may_enter(y) {
-        let value = steps[y] + 1;
-        let mut from = 0;
-        let mut hint = 0;
-        while let Some(x) = floor.inward_near(y, from, &mut hint) {
-            if steps[x] as usize == count && rules.may_leave(x) {
-                reach(steps, queue, tail, x, value);
-                tail += 1;
+        let value = room.steps[y] + 1;
+        for x in floor.before(y) {
+            if room.steps[x] as usize == count && rules.may_leave(x) {
+                room.reach(x, value);
             }
-            from = x + 1;
         }
     }
-    tail
 }
 
-// Whether x can be reached at all: it may be left, or is a goal.
-fn is_able<R: Rules>(rules: &R, x: usize) -> bool
-    ensures { result ≡ (R.Rules.leave rules.now x || R.Rules.goal rules.now x) }
-{
-    rules.may_leave(x) || rules.is_goal(x)
-}
-
-// How many points can be reached at all.
+// How many points can be reached at all: they may be left, or are goals.
 fn most_reached<R: Rules>(rules: &R, count: usize) -> usize
     ensures { result ≡ tally count (λ x. R.Rules.leave rules.now x || R.Rules.goal rules.now x) }
 {
-    let mut most = 0;
-    for x in 0..count {
-        if is_able(rules, x) {
-            most += 1;
-        }
-    }
-    most
+    (0..count)
+        .filter(|x| rules.may_leave(*x) || rules.is_goal(*x))
+        .count()
 }
 
 // Takes the queue to its end, or until all points that can be reached are: each point that comes to its head brings in those before it.
-fn follow<F: Floor, R: Rules>(
-    floor: &F,
-    rules: &R,
-    steps: &mut [u16],
-    queue: &mut [u16],
-    goals: usize,
-)
-    requires room { (F.Floor.points floor.now ≤ length steps.old) × (F.Floor.points floor.now ≤ length queue.old) }
-    requires state { Explored (F.Floor.points floor.now) (step_by (R.Rules.leave rules.now) (F.Floor.leads floor.now) (R.Rules.enter rules.now)) (R.Rules.goal rules.now) (F.Floor.points floor.now) (at steps.old) (at queue.old) 0 goals }
-    ensures shortest { (x : ℕ) → x < F.Floor.points floor.now → slice_index steps.new x ≡ unwrap_or (rank (F.Floor.points floor.now) (step_by (R.Rules.leave rules.now) (F.Floor.leads floor.now) (R.Rules.enter rules.now)) (R.Rules.goal rules.now) x) (F.Floor.points floor.now) }
-    ensures rest { SameFrom (F.Floor.points floor.now) steps.old steps.new }
+fn follow<F: Floor, R: Rules>(floor: &F, rules: &R, room: &mut Room)
+    requires { Explored (F.Floor.points floor.now) (step_by (R.Rules.leave rules.now) (F.Floor.leads floor.now) (R.Rules.enter rules.now)) (R.Rules.goal rules.now) (F.Floor.points floor.now) (at room.old.steps) (at room.old.queue) 0 room.old.reached }
+    ensures { (x : ℕ) → x < F.Floor.points floor.now → slice_index room.new.steps x ≡ unwrap_or (rank (F.Floor.points floor.now) (step_by (R.Rules.leave rules.now) (F.Floor.leads floor.now) (R.Rules.enter rules.now)) (R.Rules.goal rules.now) x) (F.Floor.points floor.now) }
 {
     let most = most_reached(rules, floor.count());
     let mut head = 0;
-    let mut tail = goals;
-    while head < tail && tail < most {
-        tail = reach_before(floor, rules, steps, queue, head, tail);
+    // the queue grows meanwhile
+    while head < room.reached && room.reached < most {
+        reach_before(floor, rules, room, head);
         head += 1;
     }
 }
 
-// Writes for each point the fewest steps by which a goal is reached from it, or the number of points where none is reached. The queue is
-// only for its own use.
-pub(crate) fn explore<F: Floor, R: Rules>(
-    floor: &F,
-    rules: &R,
-    steps: &mut [u16],
-    queue: &mut [u16],
-)
-    requires { (F.Floor.points floor.now ≤ length steps.old) × (F.Floor.points floor.now ≤ length queue.old) }
-    ensures shortest { (x : ℕ) → x < F.Floor.points floor.now → slice_index steps.new x ≡ unwrap_or (rank (F.Floor.points floor.now) (step_by (R.Rules.leave rules.now) (F.Floor.leads floor.now) (R.Rules.enter rules.now)) (R.Rules.goal rules.now) x) (F.Floor.points floor.now) }
-    ensures rest { SameFrom (F.Floor.points floor.now) steps.old steps.new }
+// Writes for each point the fewest steps by which a goal is reached from it, or the number of points where none is reached.
+pub(crate) fn explore<F: Floor, R: Rules>(floor: &F, rules: &R, room: &mut Room)
+    ensures { (x : ℕ) → x < F.Floor.points floor.now → slice_index room.new.steps x ≡ unwrap_or (rank (F.Floor.points floor.now) (step_by (R.Rules.leave rules.now) (F.Floor.leads floor.now) (R.Rules.enter rules.now)) (R.Rules.goal rules.now) x) (F.Floor.points floor.now) }
 {
     let count = floor.count();
-    forget(steps, count);
-    let goals = reach_goals(rules, steps, queue, count);
-    if goals == 0 {
-        return;
+    room.steps[..count].fill(count as u16);
+    room.reached = 0;
+    reach_goals(rules, room, count);
+    if room.reached > 0 {
+        follow(floor, rules, room);
     }
-    follow(floor, rules, steps, queue, goals);
 }

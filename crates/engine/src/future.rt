@@ -1,58 +1,56 @@
-// The kind F: every run meets a day with left yes; yes by the least number of steps that is enough.
-ghost use Rattle.std.specs.Prelude.{◌≡◌, ℕ, ◌+◌, ◌*◌, ◌<◌, ◌≤◌, length, if◌then◌else◌, slice_index};
-ghost use Rattle.model.specs.Table.{says_yes, awaited_word};
-ghost use Rattle.engine.specs.Filling.{Written, in_order, Column};
+// The kind F: every run meets a day with left yes; yes by the least number of steps that is enough. Each wait is written by its index, since
+// a proof loses what is written through `iter_mut`.
+ghost use Rattle.std.specs.Prelude.{◌≡◌, ℕ, ◌*◌, ◌<◌, ◌≤◌, length, if◌then◌else◌, slice_index};
+ghost use Rattle.model.specs.Table.{awaited_word};
+ghost use Rattle.engine.specs.Filling.{Made, in_order, yes_at, Column};
 
 use crate::awaited::settle;
-use crate::column::{read_column, write_column};
-use crate::words::is_yes;
+use crate::column::write_column;
+use crate::exploration::Room;
+use crate::lower_line::LowerLine;
 use model::{Calendar, Floor};
 
-// Marks the awaited days with 0 and the others with the count of days.
-fn mark(words: &[u32], days: usize, waits: &mut [u16])
-    requires { (days ≤ length waits.old) × (days ≤ 64) }
-    ensures { (d : ℕ) → d < days → slice_index waits.new d ≡ (if says_yes (slice_index words.now d) then 0 else days) }
+// The mark of a day: 0 for a yes, and the count of days for a no.
+fn mark_of(yes: bool, days: usize) -> u16
+    requires { days ≤ 64 }
+    ensures { result ≡ (if yes then 0 else days) }
 {
-    for d in 0..days {
-        waits[d] = if is_yes(words, d) { 0 } else { days as u16 };
+    if yes { 0 } else { days as u16 }
+}
+
+impl LowerLine<'_> {
+    // Marks the days on which the line is yes at point x with 0, and the others with the count of days.
+    fn mark(&self, x: usize, waits: &mut [u16])
+        requires { (x < self.now.points) × (length waits.old ≡ self.now.days) }
+        ensures { (d : ℕ) → d < length waits.old → slice_index waits.new d ≡ (if yes_at self.now.points self.now.words.now d x then 0 else length waits.old) }
+    {
+        let days = waits.len();
+        for d in 0..days {
+            waits[d] = mark_of(self.is_yes(d, x), days);
+        }
     }
-}
 
-// The words at one point. The waits are only for its own use.
-fn future_point<C: Calendar>(
-    calendar: &C,
-    points: usize,
-    x: usize,
-    left: usize,
-    findings: &mut [u32],
-    base: usize,
-    waits: &mut [u16],
-)
-    requires lower { (left + C.Floor.points calendar.now * points ≤ base) × (base + C.Floor.points calendar.now * points ≤ length findings.old) }
-    requires size { (x < points) × ((points ≤ 4096) × ((C.Floor.points calendar.now ≤ 64) × (C.Floor.points calendar.now ≤ length waits.old))) }
-    ensures { Column base points (C.Floor.points calendar.now) x (awaited_word (C.Floor.points calendar.now) (C.Floor.leads calendar.now) (λ e. says_yes (slice_index findings.old (left + (e * points + x))))) findings.old findings.new }
-{
-    let days = calendar.count();
-    let words = read_column(findings, left, points, x, days);
-    mark(&words, days, waits);
-    settle(calendar, waits);
-    write_column(waits, days, points, x, findings, base);
-}
+    // The words at one point. The waits are only for its own use.
+    fn future_point<C: Calendar>(&self, calendar: &C, x: usize, line: &mut [u32], waits: &mut [u16])
+        requires days { C.Floor.points calendar.now ≡ self.now.days }
+        requires point { x < self.now.points }
+        requires size { (length line.old ≡ C.Floor.points calendar.now * self.now.points) × (length waits.old ≡ C.Floor.points calendar.now) }
+        ensures { Column self.now.points (C.Floor.points calendar.now) x (awaited_word (C.Floor.points calendar.now) (C.Floor.leads calendar.now) (λ e. yes_at self.now.points self.now.words.now e x)) line.old line.new }
+    {
+        self.mark(x, waits);
+        settle(calendar, waits);
+        write_column(waits, self.points, x, line);
+    }
 
-// The words at every point.
-pub(crate) fn fill_future<C: Calendar>(
-    calendar: &C,
-    points: usize,
-    left: usize,
-    findings: &mut [u32],
-    base: usize,
-    waits: &mut [u16],
-)
-    requires lower { (left + C.Floor.points calendar.now * points ≤ base) × (base + C.Floor.points calendar.now * points ≤ length findings.old) }
-    requires size { (1 ≤ points) × ((points ≤ 4096) × ((C.Floor.points calendar.now ≤ 64) × (C.Floor.points calendar.now ≤ length waits.old))) }
-    ensures { Written base (C.Floor.points calendar.now * points) (in_order points (λ d x. awaited_word (C.Floor.points calendar.now) (C.Floor.leads calendar.now) (λ e. says_yes (slice_index findings.old (left + (e * points + x)))) d)) findings.old findings.new }
-{
-    for x in 0..points {
-        future_point(calendar, points, x, left, findings, base, waits);
+    // The words at every point, where this line is left.
+    pub(crate) fn fill_future<C: Calendar>(&self, calendar: &C, line: &mut [u32], room: &mut Room)
+        requires days { C.Floor.points calendar.now ≡ self.now.days }
+        requires size { length line.old ≡ C.Floor.points calendar.now * self.now.points }
+        ensures { Made (in_order self.now.points (λ d x. awaited_word (C.Floor.points calendar.now) (C.Floor.leads calendar.now) (λ e. yes_at self.now.points self.now.words.now e x) d)) line.new }
+    {
+        let waits = &mut room.steps[..calendar.count()];
+        for x in 0..self.points {
+            self.future_point(calendar, x, line, waits);
+        }
     }
 }

@@ -11,6 +11,7 @@ mod exploration;
 mod filling;
 mod future;
 mod kinds_shown;
+mod lower_line;
 mod near;
 mod next;
 mod phrasing;

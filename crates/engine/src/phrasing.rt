@@ -1,21 +1,22 @@
 // Phrase: one line more.
 ghost use Rattle.std.specs.Prelude.{◌≡◌, ◌+◌, length, slice_set};
+ghost use Rattle.std.specs.Result.{result_err};
 ghost use Rattle.model.specs.Calls.{answer, unless_refused, phrase_refusal};
 
 use crate::survey::Open;
-use model::{Line, Refusal, SurveyNumbers, line_refusal};
+use model::{Line, Refusal, SurveyNumbers, check_line};
 
-// Why the line cannot be the next one in a lines book of that length.
-fn phrase_refusal(held: usize, count: usize, line: Line) -> Option<Refusal>
-    ensures { result ≡ phrase_refusal held count line }
+// Whether the line can be the next one in a lines book of that length, or why not.
+fn check_phrase(held: usize, count: usize, line: Line) -> Result<(), Refusal>
+    ensures { result_err result ≡ phrase_refusal held count line }
 {
     if held < 64 {
-        return Some(Refusal::ShortBook);
+        return Err(Refusal::ShortBook);
     }
     if count >= 64 {
-        return Some(Refusal::LinesFull);
+        return Err(Refusal::LinesFull);
     }
-    line_refusal(count, line)
+    check_line(count, line)
 }
 
 impl Open {
@@ -35,9 +36,7 @@ impl Open {
     {
         let count = self.numbers.lines;
         let line = Line { kind, left, right };
-        if let Some(why) = phrase_refusal(lines.len(), count, line) {
-            return Err(why);
-        }
+        check_phrase(lines.len(), count, line)?;
         lines[count] = line;
         self.numbers = SurveyNumbers {
             points: self.numbers.points,

@@ -1,60 +1,37 @@
-// The kinds whose word depends on the same day and point alone: T, P, ! and O.
-ghost use Rattle.std.specs.Prelude.{◌≡◌, ℕ, ◌+◌, ◌<◌, ◌≤◌, not, ◌||◌, length, slice_index};
+// The kinds whose word depends on the same day and point alone: P, ! and O. Each word is written by its index, since a proof loses what is
+// written through `iter_mut`.
+ghost use Rattle.std.specs.Prelude.{◌≡◌, ◌<◌, ◌≤◌, not, ◌||◌, length, slice_index};
 ghost use Rattle.model.specs.Masks.{bit};
 ghost use Rattle.model.specs.Table.{word, says_yes};
-ghost use Rattle.engine.specs.Filling.{Written};
-
-// One word at every place.
-pub(crate) fn fill_with(value: u32, findings: &mut [u32], base: usize, size: usize)
-    requires { base + size ≤ length findings.old }
-    ensures { Written base size (λ _. value) findings.old findings.new }
-{
-    for k in 0..size {
-        findings[base + k] = value;
-    }
-}
-
-// Always yes.
-pub(crate) fn fill_truth(findings: &mut [u32], base: usize, size: usize)
-    requires { base + size ≤ length findings.old }
-    ensures { Written base size (λ _. 1) findings.old findings.new }
-{
-    fill_with(1, findings, base, size);
-}
+ghost use Rattle.engine.specs.Filling.{Made};
 
 // The reading of an atom.
-pub(crate) fn fill_reading(
-    readings: &[u32],
-    atom: u32,
-    findings: &mut [u32],
-    base: usize,
-    size: usize,
-)
-    requires held { (base + size ≤ length findings.old) × (size ≤ length readings.now) }
+pub(crate) fn fill_reading(readings: &[u32], atom: u32, line: &mut [u32])
+    requires held { length line.old ≤ length readings.now }
     requires atom { atom < 32 }
-    ensures { Written base size (λ k. word (bit (slice_index readings.now k) atom) 0) findings.old findings.new }
+    ensures { Made (λ k. word (bit (slice_index readings.now k) atom) 0) line.new }
 {
-    for k in 0..size {
-        findings[base + k] = (readings[k] >> atom) % 2;
+    for k in 0..line.len() {
+        line[k] = (readings[k] >> atom) % 2;
     }
 }
 
 // Left is no.
-pub(crate) fn fill_not(left: usize, findings: &mut [u32], base: usize, size: usize)
-    requires { (base + size ≤ length findings.old) × (left + size ≤ base) }
-    ensures { Written base size (λ k. word (not (says_yes (slice_index findings.old (left + k)))) 0) findings.old findings.new }
+pub(crate) fn fill_not(left: &[u32], line: &mut [u32])
+    requires { length left.now ≡ length line.old }
+    ensures { Made (λ k. word (not (says_yes (slice_index left.now k))) 0) line.new }
 {
-    for k in 0..size {
-        findings[base + k] = 1 - findings[left + k] % 2;
+    for k in 0..line.len() {
+        line[k] = 1 - left[k] % 2;
     }
 }
 
 // Left or right is yes.
-pub(crate) fn fill_or(left: usize, right: usize, findings: &mut [u32], base: usize, size: usize)
-    requires { (base + size ≤ length findings.old) × ((left + size ≤ base) × (right + size ≤ base)) }
-    ensures { Written base size (λ k. word (says_yes (slice_index findings.old (left + k)) || says_yes (slice_index findings.old (right + k))) 0) findings.old findings.new }
+pub(crate) fn fill_or(left: &[u32], right: &[u32], line: &mut [u32])
+    requires { (length left.now ≡ length line.old) × (length right.now ≡ length line.old) }
+    ensures { Made (λ k. word (says_yes (slice_index left.now k) || says_yes (slice_index right.now k)) 0) line.new }
 {
-    for k in 0..size {
-        findings[base + k] = (findings[left + k] % 2).max(findings[right + k] % 2);
+    for k in 0..line.len() {
+        line[k] = (left[k] % 2).max(right[k] % 2);
     }
 }

@@ -1,6 +1,9 @@
 // Record and gauge: one reading of an open survey is given its new yes or no.
-ghost use Rattle.std.specs.Prelude.{◌≡◌, ◌+◌, ◌*◌, ◌<◌, ◌≤◌, true, false, length, pos, negsuc, ◌≤ℤ◌, MatchOption, OnOk};
+ghost use Rattle.std.specs.Prelude.{◌≡◌, ◌+◌, ◌*◌, ◌<◌, ◌≤◌, true, false, not, length, pos, negsuc, ◌≤ℤ◌, OnOk};
+ghost use Rattle.std.specs.Result.{result_err};
 ghost use Rattle.model.specs.Calls.{answer, unless_refused, record_refusal, gauge_refusal, with_bit, recorded, SetsOneReading, degrees, reaches_level, on_scale};
+ghost use Rattle.model.specs.Refusals.{where_so};
+ghost use Rattle.model.specs.declared.refusal.Refusal.TheVariants.{OutOfRange};
 
 use crate::survey::Open;
 use model::{Refusal, SurveyNumbers};
@@ -17,23 +20,24 @@ fn with_bit(word: u32, atom: u32, value: bool) -> u32
     }
 }
 
-// Why no reading of that day, point and atom can be recorded in a readings book of that length.
-fn record_refusal(
+// Whether a reading of that day, point and atom can be recorded in a readings book of that length, or why not. Day, point and atom are
+// taken one by one, as the calls take them.
+fn check_record(
     numbers: SurveyNumbers,
     held: usize,
     day: usize,
     point: usize,
     atom: u32,
-) -> Option<Refusal>
-    ensures { result ≡ record_refusal numbers.points numbers.days held day point atom }
+) -> Result<(), Refusal>
+    ensures { result_err result ≡ record_refusal numbers.points numbers.days held day point atom }
 {
-    if held < numbers.days * numbers.points {
-        return Some(Refusal::ShortBook);
+    if held < numbers.size() {
+        return Err(Refusal::ShortBook);
     }
     if day >= numbers.days || point >= numbers.points || atom >= 32 {
-        return Some(Refusal::OutOfRange);
+        return Err(Refusal::OutOfRange);
     }
-    None
+    Ok(())
 }
 
 // Tenths of a degree in whole degrees, a half going away from zero.
@@ -48,17 +52,17 @@ fn whole_degrees(tenths: i32) -> i32
     }
 }
 
-// Whether tenths of a degree, in whole degrees, reach the level; none where one of them is out of range.
-fn reading_of(tenths: i32, level: i32) -> Option<bool>
-    ensures { MatchOption result (on_scale tenths level ≡ false) (λ value. (on_scale tenths level ≡ true) × (value ≡ reaches_level tenths level)) }
+// Whether tenths of a degree, in whole degrees, reach the level; refused where one of them is out of range.
+fn reading_of(tenths: i32, level: i32) -> Result<bool, Refusal>
+    ensures { result ≡ answer (where_so (not (on_scale tenths level)) OutOfRange) (reaches_level tenths level) }
 {
     if tenths < -600 || tenths > 1200 || level < -60 || level > 120 {
-        return None;
+        return Err(Refusal::OutOfRange);
     }
-    Some(level <= whole_degrees(tenths))
+    Ok(level <= whole_degrees(tenths))
 }
 
-// Gives one reading its new yes or no.
+// Gives one reading its new yes or no. Day, point and atom are taken one by one, as the calls take them.
 fn set_reading(
     readings: &mut [u32],
     numbers: SurveyNumbers,
@@ -76,7 +80,7 @@ fn set_reading(
 }
 
 impl Open {
-    // Sets or clears one reading.
+    // Sets or clears one reading: `value` is what is recorded. The book is taken by itself: a rule of the project.
     pub fn record(
         &self,
         readings: &mut [u32],
@@ -89,9 +93,7 @@ impl Open {
         ensures book { readings.new ≡ unless_refused (record_refusal self.now.numbers.points self.now.numbers.days (length readings.old) day point atom) (recorded self.now.numbers.points day point atom value readings.old) readings.old }
         ensures reading { OnOk result (SetsOneReading self.now.numbers.points self.now.numbers.days day point atom value readings.old readings.new) }
     {
-        if let Some(why) = record_refusal(self.numbers, readings.len(), day, point, atom) {
-            return Err(why);
-        }
+        check_record(self.numbers, readings.len(), day, point, atom)?;
         set_reading(readings, self.numbers, day, point, atom, value);
         Ok(())
     }
@@ -110,12 +112,8 @@ impl Open {
         ensures book { readings.new ≡ unless_refused (gauge_refusal self.now.numbers.points self.now.numbers.days (length readings.old) day point atom tenths level) (recorded self.now.numbers.points day point atom (reaches_level tenths level) readings.old) readings.old }
         ensures reading { OnOk result (SetsOneReading self.now.numbers.points self.now.numbers.days day point atom (reaches_level tenths level) readings.old readings.new) }
     {
-        if let Some(why) = record_refusal(self.numbers, readings.len(), day, point, atom) {
-            return Err(why);
-        }
-        let Some(reached) = reading_of(tenths, level) else {
-            return Err(Refusal::OutOfRange);
-        };
+        check_record(self.numbers, readings.len(), day, point, atom)?;
+        let reached = reading_of(tenths, level)?;
         set_reading(readings, self.numbers, day, point, atom, reached);
         Ok(())
     }

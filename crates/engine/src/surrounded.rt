@@ -1,11 +1,10 @@
 // The kind S: a region of left, bordered by right, holds the point; no by the steps of the shortest way out.
-ghost use Rattle.std.specs.Prelude.{◌≡◌, ℕ, ◌+◌, ◌*◌, ◌<◌, ◌≤◌, Bool, true, not, length, slice_index};
-ghost use Rattle.std.specs.Option.{unwrap_or};
-ghost use Rattle.model.specs.Table.{says_yes, rank, surrounded_word};
-ghost use Rattle.engine.specs.Exploring.{step_by};
-ghost use Rattle.engine.specs.Filling.{Written, in_order, way_word};
+ghost use Rattle.std.specs.Prelude.{◌≡◌, ◌*◌, ◌≤◌, true, not, length, slice_index};
+ghost use Rattle.model.specs.Table.{says_yes, surrounded_word};
+ghost use Rattle.engine.specs.Filling.{Made, in_order, way_word, yes_at};
 
-use crate::exploration::{Rules, explore};
+use crate::exploration::{Room, Rules, explore};
+use crate::lower_line::LowerLine;
 use crate::words::is_yes;
 use model::Floor;
 
@@ -36,7 +35,7 @@ impl Rules for WaysOut<'_, '_> {
     }
 }
 
-// The word of so many steps out.
+// The word of so many steps out. `day_word` (`column.rt`) is its like: there a number means yes, and none is 0.
 fn way_word(points: usize, steps: u16) -> u32
     ensures { result ≡ way_word points steps }
 {
@@ -46,75 +45,52 @@ fn way_word(points: usize, steps: u16) -> u32
     1
 }
 
-// Writes the words of one day from the steps of the shortest ways out, where the number of points stands for none.
-fn write_ways(steps: &[u16], points: usize, findings: &mut [u32], base: usize)
-    requires { (base + points ≤ length findings.old) × (points ≤ length steps.now) }
-    ensures { Written base points (λ x. way_word points (slice_index steps.now x)) findings.old findings.new }
+// Writes the words of one day from the steps of the shortest ways out, where the number of points stands for none. Each word is written by
+// its index, since a proof loses what is written through `iter_mut`.
+fn write_ways(steps: &[u16], line: &mut [u32])
+    requires { length line.old ≤ length steps.now }
+    ensures { Made (λ x. way_word (length line.old) (slice_index steps.now x)) line.new }
 {
+    let points = line.len();
     for x in 0..points {
-        findings[base + x] = way_word(points, steps[x]);
+        line[x] = way_word(points, steps[x]);
     }
 }
 
-// The steps of the shortest ways out, by left's and right's words of one day.
-fn ways_out<F: Floor>(floor: &F, left: &[u32], right: &[u32], steps: &mut [u16], queue: &mut [u16])
-    requires { (F.Floor.points floor.now ≤ length steps.old) × (F.Floor.points floor.now ≤ length queue.old) }
-    ensures { (x : ℕ) → x < F.Floor.points floor.now → slice_index steps.new x ≡ unwrap_or (rank (F.Floor.points floor.now) (step_by (λ y. true) (F.Floor.leads floor.now) (λ y. not (says_yes (slice_index right.now y)))) (λ y. not (says_yes (slice_index left.now y))) x) (F.Floor.points floor.now) }
-{
-    explore(floor, &WaysOut { left, right }, steps, queue);
-}
-
-// The words of one day: left's and right's of the same day start at `left` and `right`. The steps and the queue are only for its own use.
+// The words of one day.
 fn surrounded_day<F: Floor>(
     floor: &F,
-    left: usize,
-    right: usize,
-    findings: &mut [u32],
-    base: usize,
-    steps: &mut [u16],
-    queue: &mut [u16],
+    left: &[u32],
+    right: &[u32],
+    line: &mut [u32],
+    room: &mut Room,
 )
-    requires lower { (left + F.Floor.points floor.now ≤ base) × ((right + F.Floor.points floor.now ≤ base) × (base + F.Floor.points floor.now ≤ length findings.old)) }
-    requires room { (F.Floor.points floor.now ≤ length steps.old) × (F.Floor.points floor.now ≤ length queue.old) }
-    ensures { Written base (F.Floor.points floor.now) (surrounded_word (F.Floor.points floor.now) (F.Floor.leads floor.now) (λ y. says_yes (slice_index findings.old (left + y))) (λ y. says_yes (slice_index findings.old (right + y)))) findings.old findings.new }
+    requires { length line.old ≡ F.Floor.points floor.now }
+    ensures { Made (surrounded_word (F.Floor.points floor.now) (F.Floor.leads floor.now) (λ y. says_yes (slice_index left.now y)) (λ y. says_yes (slice_index right.now y))) line.new }
 {
-    let points = floor.count();
-    ways_out(
-        floor,
-        &findings[left..left + points],
-        &findings[right..right + points],
-        steps,
-        queue,
-    );
-    write_ways(steps, points, findings, base);
+    explore(floor, &WaysOut { left, right }, room);
+    write_ways(&room.steps, line);
 }
 
-// The words of every day.
-pub(crate) fn fill_surrounded<F: Floor>(
-    floor: &F,
-    days: usize,
-    left: usize,
-    right: usize,
-    findings: &mut [u32],
-    base: usize,
-    steps: &mut [u16],
-    queue: &mut [u16],
-)
-    requires lower { (left + days * F.Floor.points floor.now ≤ base) × ((right + days * F.Floor.points floor.now ≤ base) × ((base + days * F.Floor.points floor.now ≤ length findings.old) × (days ≤ 64))) }
-    requires room { (F.Floor.points floor.now ≤ length steps.old) × (F.Floor.points floor.now ≤ length queue.old) }
-    ensures { Written base (days * F.Floor.points floor.now) (in_order (F.Floor.points floor.now) (λ d. surrounded_word (F.Floor.points floor.now) (F.Floor.leads floor.now) (λ y. says_yes (slice_index findings.old (left + (d * F.Floor.points floor.now + y)))) (λ y. says_yes (slice_index findings.old (right + (d * F.Floor.points floor.now + y)))))) findings.old findings.new }
-{
-    let points = floor.count();
-    for d in 0..days {
-        let row = d * points;
-        surrounded_day(
-            floor,
-            left + row,
-            right + row,
-            findings,
-            base + row,
-            steps,
-            queue,
-        );
+impl LowerLine<'_> {
+    // The words of every day, where this line is left. A day's part is cut out by hand, since a proof loses what is written through
+    // `chunks_mut`.
+    pub(crate) fn fill_surrounded<F: Floor>(
+        &self,
+        floor: &F,
+        right: &Self,
+        line: &mut [u32],
+        room: &mut Room,
+    )
+        requires points { F.Floor.points floor.now ≡ self.now.points }
+        requires same { (right.now.points ≡ self.now.points) × (right.now.days ≡ self.now.days) }
+        requires size { length line.old ≡ self.now.days * self.now.points }
+        ensures { Made (in_order self.now.points (λ d. surrounded_word (F.Floor.points floor.now) (F.Floor.leads floor.now) (yes_at self.now.points self.now.words.now d) (yes_at self.now.points right.now.words.now d))) line.new }
+    {
+        for d in 0..self.days {
+            let from = d * self.points;
+            let row = &mut line[from..from + self.points];
+            surrounded_day(floor, self.day(d), right.day(d), row, room);
+        }
     }
 }

@@ -1,4 +1,5 @@
-// The two states of a survey. Neither can be copied, and their fields are out of other crates' hands.
+// The two states of a survey, moved types of their own, and so each has its own `numbers`. Neither can be copied, and their fields are out
+// of other crates' hands.
 ghost use Rattle.std.specs.Prelude.{◌≡◌};
 
 use model::SurveyNumbers;

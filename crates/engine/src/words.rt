@@ -1,4 +1,4 @@
-// Reading answers off a stretch of words, and off a mask.
+// Reading answers off a stretch of words, and off a mask. The examiner has its own, since it takes nothing from the engine.
 ghost use Rattle.std.specs.Prelude.{◌≡◌, slice_index};
 ghost use Rattle.model.specs.Masks.{bit};
 ghost use Rattle.model.specs.Table.{says_yes};
@@ -7,18 +7,12 @@ ghost use Rattle.model.specs.Table.{says_yes};
 pub(crate) fn is_yes(words: &[u32], x: usize) -> bool
     ensures { result ≡ says_yes (slice_index words.now x) }
 {
-    if x < words.len() {
-        return words[x] % 2 == 1;
-    }
-    false
+    x < words.len() && words[x] % 2 == 1
 }
 
 // Whether bit d of the mask is set; no past its end.
 pub(crate) fn is_set(mask: u64, d: usize) -> bool
     ensures { result ≡ bit mask d }
 {
-    if d < 64 {
-        return (mask >> d) % 2 == 1;
-    }
-    false
+    d < 64 && (mask >> d) % 2 == 1
 }

@@ -10,28 +10,18 @@ use crate::book::fill_book;
 use crate::survey::{Open, Worked};
 use model::{Calendar, Floor, Line, Refusal, SurveyNumbers};
 
-// Why no survey of so many points and days can be opened on books of these lengths.
-fn open_refusal(points: usize, days: usize, readings: usize, lines: usize) -> Option<Refusal>
+// Whether a survey of so many points and days can be opened on books of these lengths, or why not.
+fn check_open(points: usize, days: usize, readings: usize, lines: usize) -> Result<(), Refusal>
     requires { points ≤ 4096 }
-    ensures { result ≡ open_refusal points days readings lines }
+    ensures { result_err result ≡ open_refusal points days readings lines }
 {
     if days > 64 {
-        return Some(Refusal::CalendarSize);
+        return Err(Refusal::CalendarSize);
     }
     if readings < days * points || lines < 64 {
-        return Some(Refusal::ShortBook);
+        return Err(Refusal::ShortBook);
     }
-    None
-}
-
-// Zeroes the first words of a book.
-fn clear_words(book: &mut [u32], size: usize)
-    requires { size ≤ length book.old }
-    ensures { Written 0 size (λ _. 0) book.old book.new }
-{
-    for k in 0..size {
-        book[k] = 0;
-    }
+    Ok(())
 }
 
 impl Open {
@@ -51,10 +41,8 @@ impl Open {
     {
         let points = floor.count();
         let days = calendar.count();
-        if let Some(why) = open_refusal(points, days, readings.len(), lines.len()) {
-            return Err(why);
-        }
-        clear_words(readings, days * points);
+        check_open(points, days, readings.len(), lines.len())?;
+        readings[..days * points].fill(0);
         let numbers = SurveyNumbers {
             points,
             days,
@@ -63,7 +51,8 @@ impl Open {
         Ok(Open { numbers })
     }
 
-    // Writes every entry and turns the survey into a worked one; hands the open one back where it is refused.
+    // Writes every entry and turns the survey into a worked one; hands the open one back where it is refused. Floor, calendar and books are
+    // taken one by one: a rule of the project.
     pub fn work<F: Floor, C: Calendar>(
         self,
         floor: &F,
@@ -80,6 +69,7 @@ impl Open {
         let numbers = self.numbers;
         match fill_book(numbers, floor, calendar, readings, lines, findings) {
             Ok(()) => Ok(Worked { numbers }),
+            // the open survey is handed back: a rule of the project
             Err(why) => Err((self, why)),
         }
     }

@@ -1,24 +1,14 @@
 -- Where everything is in order all lines are filled in, and the table's words say where each formula is satisfied.
-use Rattle.std.proofs.Common.{◌≡◌, ◌*◌, length, ap, ap₂, arith}
+use Rattle.std.proofs.Common.{length}
 use Rattle.model.specs.Books.{model_of}
 use Rattle.model.proofs.Refusals.{in_order}
 use Rattle.model.proofs.Satisfied.{holds_means}
 use Rattle.engine.proofs.book.fill_entries.Goals as goal
 
-pub fill_lines-requires : goal.fill_lines-requires
-fill_lines-requires g c =
-    let n = g.F.Floor.points c.args.floor.now in
-    let m = g.C.Floor.points c.args.calendar.now in
+pub fill_lines-requires-clause-lawful : goal.fill_lines-requires-clause-lawful
+fill_lines-requires-clause-lawful g c =
     let k = c.args.numbers in
-    let o = in_order k.points k.days k.lines n m (length c.args.readings.now) c.args.lines.now (length c.args.findings.now) c.requires in
-    let size : m * n ≡ k.days * k.points = ap₂ (λ a b. a * b) o.calendar o.floor in
-    let all : k.lines * (m * n) ≡ k.lines * (k.days * k.points) = ap (λ a. k.lines * a) size in
-    record {
-      lawful = o.lawful;
-      size = (omega arith, (omega arith, omega arith));
-      held = (omega arith, omega arith);
-      room = (omega arith, omega arith);
-    }
+    (in_order k.points k.days k.lines (g.F.Floor.points c.args.floor.now) (g.C.Floor.points c.args.calendar.now) (length c.args.readings.now) c.args.lines.now (length c.args.findings.now) c.requires).lawful
 
 pub returns : goal.returns
 returns g c =

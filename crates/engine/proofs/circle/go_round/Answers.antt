@@ -1,5 +1,5 @@
 -- Each turn puts one day down, and then comes round, breaks off or goes on.
-use Rattle.std.proofs.Common.{ℕ, Bool, not, ◌&&◌, replicate, Option, sym, refl, arith}
+use Rattle.std.proofs.Common.{◌≡◌, None, rules, ℕ, Bool, not, ◌&&◌, replicate, Option, sym, refl, arith}
 use Rattle.model.specs.Table.{says_yes}
 use Rattle.model.proofs.Levels.{least_found}
 use Rattle.engine.specs.Exploring.{at}
@@ -30,13 +30,14 @@ returns-then-is_yes g c =
     let l = c.loop-i in
     going_awaited m next awaited c.args.start l.i l.days l.d (omega arith) (omega arith) l.invariant c.if-stands_in.ensures c.if-is_yes.ensures
 
-pub returns-in_default : goal.returns-in_default
-returns-in_default g c =
+pub returns-in_err-d : goal.returns-in_err-d
+returns-in_err-d g c =
     let m = g.C.Floor.points c.args.calendar.now in
     let next : ℕ → Option ℕ = next_no m (g.C.Floor.leads c.args.calendar.now) (at c.args.own.now) in
     let awaited : ℕ → Bool = λ e. says_yes (at c.args.left.now e) in
     let l = c.loop-i in
-    going_nowhere m next awaited c.args.start l.i l.days l.d (omega arith) (omega arith) l.invariant c.if-stands_in.ensures c.if-is_yes.ensures c.in_default.ensures
+    let none : c.from_residual.result ≡ None = search rules in
+    rw none (going_nowhere m next awaited c.args.start l.i l.days l.d (omega arith) (omega arith) l.invariant c.if-stands_in.ensures c.if-is_yes.ensures c.in_err-d.ensures)
 
 pub loop-i-preserved : goal.loop-i-preserved
 loop-i-preserved g c =
@@ -45,8 +46,8 @@ loop-i-preserved g c =
     let next : ℕ → Option ℕ = next_no m after (at c.args.own.now) in
     let awaited : ℕ → Bool = λ e. says_yes (at c.args.left.now e) in
     let l = c.loop-i in
-    going_on m next awaited c.args.start l.i l.days l.d (omega arith) (omega arith) l.invariant c.in-Some.e c.if-stands_in.ensures c.if-is_yes.ensures c.in-Some.ensures
-    (least_found m (λ e. after l.d e && not (says_yes (at c.args.own.now e))) c.in-Some.e (sym c.in-Some.ensures)).below
+    going_on m next awaited c.args.start l.i l.days l.d (omega arith) (omega arith) l.invariant c.in_ok-d.d c.if-stands_in.ensures c.if-is_yes.ensures c.in_ok-d.ensures
+    (least_found m (λ e. after l.d e && not (says_yes (at c.args.own.now e))) c.in_ok-d.d (sym c.in_ok-d.ensures)).below
 
 pub returns : goal.returns
 returns g c =

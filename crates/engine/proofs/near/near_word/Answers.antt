@@ -1,20 +1,22 @@
--- The points that lead here are gone through in ascending order.
-use Rattle.std.proofs.Common.{ℕ, ◌+◌, ◌<◌, ◌≤◌, Bool, get_or, ⊎_elim}
-use Rattle.std.proofs.lemmas.Bool.{cases_lt, both_ways, eq-eqb, ne_eqb}
+-- A search among the points that lead here says whether left is yes at one.
+use Rattle.std.proofs.Common.{ℕ, ◌*◌, ◌<◌, Bool, length, get_or, ap, ◌∙◌, rules, tests, arith}
+use Rattle.std.proofs.lemmas.Bool.{ne_eqb}
 use Rattle.model.specs.Table.{says_yes}
-use Rattle.engine.proofs.Nearness.{near_found, near_nowhere}
+use Rattle.engine.proofs.MadeWords.{near_made}
+use Rattle.engine.proofs.Moving.{asks_before, any_before}
+use Rattle.engine.proofs.Nearness.{near_by}
 use Rattle.engine.proofs.near.near_word.Goals as goal
 
-pub returns-then-findings-left-eq1-2 : goal.returns-then-findings-left-eq1-2
-returns-then-findings-left-eq1-2 g c =
-    let f = c.args.floor.now in
-    let left : ℕ → Bool = λ y. says_yes (get_or c.args.findings.now (c.args.left + y) 0) in
-    let y = c.in-Some.ensures in
-    near_found (g.F.Floor.points f) (g.F.Floor.leads f) left c.args.x (ne_eqb _ 1 c.if-findings-left-eq1.false) c.in-Some.y y.1 y.2 (eq-eqb _ 1 c.if-findings-left-eq1-2.true)
+pub any-near-requires-clause-callable : goal.any-near-requires-clause-callable
+any-near-requires-clause-callable g c =
+    let start = c.before-2.ensures in
+    asks_before g.F.Floor.points g.F.Floor.leads c.args.floor.now c.args.x c.before-2.result start.floor start.point _ (λ y q h. search (rules, tests))
+    (λ y h. let held : y < length c.args.left.now = omega arith in search (rules, arith))
 
 pub returns : goal.returns
 returns g c =
-    let f = c.args.floor.now in
-    let left : ℕ → Bool = λ y. says_yes (get_or c.args.findings.now (c.args.left + y) 0) in
-    near_nowhere (g.F.Floor.points f) (g.F.Floor.leads f) left c.args.x (ne_eqb _ 1 c.if-findings-left-eq1.false)
-    (λ y h l. ⊎_elim (λ (b : y < c.loop-y.from). c.loop-y.invariant y b l) (λ (b : c.loop-y.from ≤ y). absurd (both_ways _ (c.in_default.ensures y b h) l)) (cases_lt y c.loop-y.from))
+    let start = c.before-2.ensures in
+    let left : ℕ → Bool = λ y. says_yes (get_or c.args.left.now y 0) in
+    let near = any_before g.F.Floor.points g.F.Floor.leads c.args.floor.now c.args.x c.before-2.result start.floor start.point _ left _ c.any-near.new.self c.any-near.result start.from c.any-near.ensures.ran (λ y q h. search (rules, tests)) (λ y q h. search (rules, tests)) in
+    ap (λ w. 3 * w) c.from.ensures ∙ near_made c.any-near.result
+    ∙ near_by (g.F.Floor.points c.args.floor.now) (g.F.Floor.leads c.args.floor.now) left c.args.x (ne_eqb _ 1 c.if-left-x-eq1.false) c.any-near.result near

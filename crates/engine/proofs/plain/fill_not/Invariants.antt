@@ -1,8 +1,7 @@
-use Rattle.std.proofs.Common.{◌+◌, not, get_or}
+use Rattle.std.proofs.Common.{◌≡◌, ℕ, ◌<◌, not, get_or}
 use Rattle.model.specs.Table.{word, says_yes}
-use Rattle.engine.specs.Filling.{Written}
 use Rattle.engine.proofs.plain.fill_not.Given as goal
 
--- the first k words are written
+-- the words before k are written
 abbrev pub invariant-loop-k : goal.invariant-loop-k
-invariant-loop-k l = Written l.base l.k (λ k. word (not (says_yes (get_or l.initial.findings (l.left + k) 0))) 0) l.initial.findings l.findings
+invariant-loop-k l = (j : ℕ) → j < l.k → get_or l.line j 0 ≡ word (not (says_yes (get_or l.left j 0))) 0
