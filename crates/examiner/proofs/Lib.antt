@@ -1,3 +1,4 @@
 pub mod Neighbours
 pub mod BookWords
 pub mod Verdicts
+pub mod FirstFalse

@@ -1,9 +1,26 @@
--- What is known of all numbers of a row when they are met one after the other, each the least from the one before on.
-use Rattle.std.proofs.Common.{◌≡◌, ℕ, zero, suc, ◌+◌, ◌<◌, ◌≤◌, max, Bool, true, false, cond, not, ◌&&◌, ◌||◌, Some, None, Option, sym, refl, ◌∙◌, ap₂, ⊎_elim, add-one, arith}
+-- What is known of all numbers of a row when they are gone through from the least on.
+use Rattle.std.proofs.Common.{List, MatchOption, ◌≡◌, ℕ, zero, suc, ◌+◌, ◌<◌, ◌≤◌, max, Bool, true, false, cond, not, ◌&&◌, ◌||◌, Some, None, Option, sym, refl, ◌∙◌, ap₂, ⊎_elim, add-one, arith}
 use mathlib.Core.Path.{fun_ext}
-use Rattle.std.proofs.lemmas.Bool.{cases_eq, cases_lt, cases_Bool, both_ways, and_from, and_parts, and_left, or_left, or_right, or_from, not_from_true, not_from_false, cond-true, cond-false}
+use Rattle.std.proofs.lemmas.Bool.{cases_eq, cases_lt, cases_Bool, both_ways, and_left, or_left, or_right, or_from, not_from_true, not_from_false, cond-true, cond-false}
+use denote.Param.Members.{Mut}
+use Rattle.std.specs.Fn.{Called}
+use Rattle.std.specs.Iterator.{YieldsThen}
+use Rattle.std.specs.List.{FoldsTo}
 use Rattle.model.specs.Numbers.{any, every, lower_of, lowest, highest}
-use Rattle.model.proofs.Numbers.{any_from, any_gives, every_from, every_gives, highest_over}
+use Rattle.model.specs.Relations.{MovesOn}
+use Rattle.model.proofs.GoingThrough.{any_on}
+use Rattle.model.proofs.Numbers.{every_from, every_gives, highest_over}
+
+module _ {S : Type 0} (points : S → ℕ) (row : S → ℕ → Bool) (from : S → ℕ) where
+  -- one number more of a row that is gone through
+  pub next_met : (n : ℕ) (w : ℕ → Bool) (s t : S) (k : ℕ) → MovesOn points row from s (Some k) t → points s ≡ n → row s ≡ w
+      → (points t ≡ n) × (row t ≡ w) × (from t ≡ k + 1) × (from s ≤ k) × (k < n) × (w k ≡ true) × ((j : ℕ) → from s ≤ j → j < k → w j ≡ false)
+  next_met n w s t k m p e =
+      (m.0 ∙ p, m.1 ∙ e, m.3, m.2.0, omega (arith, m.2.1), rw (← e) m.2.2, λ j a b. rw (← e) (m.2.3 j a b))
+
+  -- none is left
+  pub none_left : (n : ℕ) (w : ℕ → Bool) (s t : S) → MovesOn points row from s None t → points s ≡ n → row s ≡ w → (j : ℕ) → from s ≤ j → j < n → w j ≡ false
+  none_left n w s t m p e j a b = rw (← e) (m.2 j a (omega arith))
 
 -- what holds of the numbers of a row before `from`, where there are none from there on, holds of all of them
 pub all_met : (n : ℕ) (row : ℕ → Bool) (P : ℕ → Type 0) (from : ℕ) → ((k : ℕ) → k < from → row k ≡ true → P k) → ((k : ℕ) → from ≤ k → k < n → row k ≡ false)
@@ -16,18 +33,6 @@ pub one_met : (row : ℕ → Bool) (P : ℕ → Type 0) (from e : ℕ) → ((k :
     → (k : ℕ) → k < e + 1 → row k ≡ true → P k
 one_met row P from e before none here k h r =
     ⊎_elim (λ (s : k ≡ e). rw s here) (λ (ne : k ≡ e → ⊥). all_met e row P from before none k (omega arith) r) (cases_eq k e)
-
--- some number of the row passes, or none does
-pub any_met : (n : ℕ) (row test : ℕ → Bool) (k : ℕ) → k < n → row k ≡ true → true ≡ test k → true ≡ any n (λ j. row j && test j)
-any_met n row test k h r t = sym (any_from n (λ j. row j && test j) k h (and_from (row k) (test k) r (sym t)))
-
-pub none_met : (n : ℕ) (row test : ℕ → Bool) → ((k : ℕ) → k < n → row k ≡ true → test k ≡ false) → false ≡ any n (λ j. row j && test j)
-none_met n row test none =
-    ⊎_elim (λ (t : any n (λ j. row j && test j) ≡ true).
-    let w = any_gives n (λ j. row j && test j) t in
-    let p = and_parts (row w.0) (test w.0) w.2 in
-    absurd (both_ways (test w.0) (none w.0 w.1 p.0) p.1))
-    sym (cases_Bool (any n (λ j. row j && test j)))
 
 lower_none : (o : Option ℕ) → lower_of o None ≡ o
 lower_none None = refl
@@ -72,3 +77,13 @@ and_assoc false b c = refl
 
 pub lowest_grouped : (m n : ℕ) (t u v : ℕ → Bool) (value : ℕ → ℕ) → m ≡ n → lowest m (λ k. t k && (u k && v k)) value ≡ lowest n (λ k. (t k && u k) && v k) value
 lowest_grouped m n t u v value e = ap₂ (λ k test. lowest k test value) e (fun_ext (λ k. and_assoc (t k) (u k) (v k)))
+
+-- what `any` answers over a row of n numbers that is gone through from the start
+pub any_met : {S F : Type 0} (points : S → ℕ) (row : S → ℕ → Bool) (from : S → ℕ) {g : Mut F (ℕ × Unit {0}) Bool} {f : F} {s : S} {r : Bool} (u : S) (n : ℕ) (w test : ℕ → Bool)
+    → from s ≡ 0 → points s ≡ n → row s ≡ w
+    → (xs : List ℕ) × (o : Option ℕ) × (j : F) × YieldsThen (MovesOn points row from) s xs o u × FoldsTo (λ p x q. Called g p (x, tt) false q) f xs j
+    × MatchOption o (r ≡ false) (λ x. (r ≡ true) × ((h : F) × Called g j (x, tt) true h))
+    → ((x : ℕ) (q : F) → Called g f (x, tt) true q → test x ≡ true) → ((x : ℕ) (q : F) → Called g f (x, tt) false q → (q ≡ f) × (test x ≡ false))
+    → r ≡ any n (λ k. w k && test k)
+any_met points row from {g} {f} {s} {r} u n w test z e h ran passes fails =
+    any_on points row from g test f s u r z ran passes fails ∙ ap₂ (λ m v. any m (λ k. v k && test k)) e h

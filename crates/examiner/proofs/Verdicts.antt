@@ -5,14 +5,16 @@ use Rattle.model.specs.declared.answers.Verdict.TheVariants.{Accepted, FalseAt}
 use Rattle.model.specs.declared.line.Line.{Line}
 use Rattle.model.specs.Books.{finding_in, model_of}
 use Rattle.model.specs.Examining.{Examined}
-use Rattle.examiner.specs.FalsePlaces.{FalseLine}
+use Rattle.examiner.specs.FalsePlaces.{FalsePoint, FalseDay, FalseLine}
 
 -- the counts by which the book was read are those of the floor and of the calendar
 module _ (points days n m count : ℕ) (leads after : ℕ → ℕ → Bool) (readings : List ℕ) (lines : List Line) (findings : List ℕ) (floor : n ≡ points) (calendar : m ≡ days) where
   pub accepted : FalseLine (model_of points leads days after readings) lines (finding_in findings points days) count None → Examined None (model_of n leads m after readings) lines count findings Accepted
+  unfolding FalseLine FalseDay FalsePoint
   accepted none = rw (floor, calendar) (λ i d x h hd hx. none i h d hd x hx)
 
   pub false_at : (p : Place) → FalseLine (model_of points leads days after readings) lines (finding_in findings points days) count (Some p) → Examined None (model_of n leads m after readings) lines count findings (FalseAt p)
+  unfolding FalseLine FalseDay FalsePoint
   false_at p (h, here, before) =
       rw (floor, calendar) (record {
         in_lines = h;

@@ -17,19 +17,19 @@ abbrev pub TrueAt : Model → Line → (ℕ → Plane) → ℕ → ℕ → ℕ �
 TrueAt M line words i d x = words i d x ≡ wanted M line words i d x
 
 -- the first false point of line i on day d
-abbrev pub FalsePoint : Model → Line → (ℕ → Plane) → ℕ → ℕ → Option ℕ → Type 0
+unfoldable pub FalsePoint : Model → Line → (ℕ → Plane) → ℕ → ℕ → Option ℕ → Type 0
 FalsePoint M line words i d None = (x : ℕ) → x < M.points → TrueAt M line words i d x
 FalsePoint M line words i d (Some x) =
     (x < M.points) × (TrueAt M line words i d x → ⊥) × ((y : ℕ) → y < x → TrueAt M line words i d y)
 
 -- the first false day of line i, and its first false point
-abbrev pub FalseDay : Model → Line → (ℕ → Plane) → ℕ → Option (ℕ × ℕ) → Type 0
+unfoldable pub FalseDay : Model → Line → (ℕ → Plane) → ℕ → Option (ℕ × ℕ) → Type 0
 FalseDay M line words i None = (d : ℕ) → d < M.days → FalsePoint M line words i d None
 FalseDay M line words i (Some p) =
     (p.0 < M.days) × FalsePoint M line words i p.0 (Some p.1) × ((e : ℕ) → e < p.0 → FalsePoint M line words i e None)
 
 -- the first false line among the first `count`, its first false day and that day's first false point
-abbrev pub FalseLine : Model → List Line → (ℕ → Plane) → ℕ → Option Place → Type 0
+unfoldable pub FalseLine : Model → List Line → (ℕ → Plane) → ℕ → Option Place → Type 0
 FalseLine M lines words count None = (i : ℕ) → i < count → FalseDay M (line_at lines i) words i None
 FalseLine M lines words count (Some p) =
     (p.line < count)

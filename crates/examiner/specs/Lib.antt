@@ -1,1 +1,2 @@
 pub mod FalsePlaces
+pub mod Read

@@ -1,56 +1,42 @@
 // The kind F: yes where left is yes, and where every next day is yes, one step further than the highest of them.
-ghost use Rattle.std.specs.Prelude.{◌≡◌, ◌<◌, not, ◌||◌, if◌then◌else◌, Some, None};
-ghost use Rattle.model.specs.Books.{finding_in};
+ghost use Rattle.std.specs.Prelude.{◌≡◌, not, ◌||◌, if◌then◌else◌, Some, None};
 ghost use Rattle.model.specs.Entries.{awaited_entry};
 ghost use Rattle.model.specs.Numbers.{every, highest};
 ghost use Rattle.model.specs.Table.{says_yes, number};
+ghost use Rattle.examiner.specs.Read.{words_of};
 
-use crate::words::{finding, is_yes};
-use model::{Calendar, SurveyNumbers};
+use crate::examination::Examination;
+use model::{Calendar, Floor, Place};
 
-// The highest number of line `own` at point x on the days after d; none where one of them is no.
-fn highest_wait<C: Calendar>(
-    calendar: &C,
-    findings: &[u32],
-    numbers: SurveyNumbers,
-    own: u32,
-    d: usize,
-    x: usize,
-) -> Option<u32>
-    requires { (C.Floor.points calendar.now ≡ numbers.days) × (x < numbers.points) }
-    ensures { result ≡ (if every numbers.days (λ e. not (C.Floor.leads calendar.now d e) || says_yes (finding_in findings.now numbers.points numbers.days own e x)) then Some (highest numbers.days (λ e. C.Floor.leads calendar.now d e) (λ e. number (finding_in findings.now numbers.points numbers.days own e x))) else None) }
-{
-    let mut highest: u32 = 0;
-    let mut from = 0;
-    while let Some(e) = calendar.onward(d, from) {
-        let word = finding(findings, numbers, own, e, x);
-        if word % 2 == 0 {
-            return None;
+impl<F: Floor, C: Calendar> Examination<'_, F, C> {
+    // The highest number of the line `own` at the point on the next days; none where one of them is no: a `for` that returns says plainer than
+    // `try_fold` what ends it.
+    fn highest_wait(&self, own: Place) -> Option<u32>
+        ensures { result ≡ (if every self.now.findings.numbers.days (λ e. not (C.Floor.leads self.now.calendar.now own.day e) || says_yes (words_of self.now.findings own.line e own.point)) then Some (highest self.now.findings.numbers.days (λ e. C.Floor.leads self.now.calendar.now own.day e) (λ e. number (words_of self.now.findings own.line e own.point))) else None) }
+    {
+        let words = self.findings.point_words(own);
+        let mut highest: u32 = 0;
+        for e in self.calendar.after(own.day) {
+            let word = words.word(e);
+            if word % 2 == 0 {
+                return None;
+            }
+            highest = highest.max(word / 2);
         }
-        highest = highest.max(word / 2);
-        from = e + 1;
+        Some(highest)
     }
-    Some(highest)
-}
 
-// The word that the entry rule wants of line `own` on day d at point x.
-pub(crate) fn awaited_word<C: Calendar>(
-    calendar: &C,
-    findings: &[u32],
-    numbers: SurveyNumbers,
-    left: u32,
-    own: u32,
-    d: usize,
-    x: usize,
-) -> u64
-    requires { (C.Floor.points calendar.now ≡ numbers.days) × ((d < numbers.days) × (x < numbers.points)) }
-    ensures { result ≡ awaited_entry numbers.days (C.Floor.leads calendar.now) (λ e. says_yes (finding_in findings.now numbers.points numbers.days left e x)) (λ e. finding_in findings.now numbers.points numbers.days own e x) d }
-{
-    if is_yes(findings, numbers, left, d, x) {
-        return 1;
-    }
-    match highest_wait(calendar, findings, numbers, own, d, x) {
-        Some(k) => 2 * (1 + k as u64) + 1,
-        None => 0,
+    // The word that the entry rule wants of the entry `own`.
+    pub(crate) fn awaited_word(&self, left: Place, own: Place) -> u64
+        requires { left.day ≡ own.day }
+        ensures { result ≡ awaited_entry self.now.findings.numbers.days (C.Floor.leads self.now.calendar.now) (λ e. says_yes (words_of self.now.findings left.line e left.point)) (λ e. words_of self.now.findings own.line e own.point) own.day }
+    {
+        if self.findings.is_yes(left) {
+            return 1;
+        }
+        match self.highest_wait(own) {
+            Some(k) => 2 * (1 + k as u64) + 1,
+            None => 0,
+        }
     }
 }

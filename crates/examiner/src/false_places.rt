@@ -1,79 +1,52 @@
 // The first false place, by line, day and point.
-ghost use Rattle.std.specs.Prelude.{◌≡◌, ◌<◌, ◌≤◌, length};
-ghost use Rattle.model.specs.Books.{finding_in, model_of};
-ghost use Rattle.examiner.specs.FalsePlaces.{FalsePoint, FalseDay, FalseLine};
+ghost use Rattle.std.specs.Prelude.{◌≡◌, ◌↔◌, ◌≤◌, length, IsTrue};
+ghost use Rattle.examiner.specs.FalsePlaces.{TrueAt, FalsePoint, FalseDay, FalseLine};
+ghost use Rattle.examiner.specs.Read.{words_of, model_for};
 
-use crate::wanted::wanted_word;
-use crate::words::finding;
-use model::{Calendar, Floor, Line, Place, SurveyNumbers};
+use crate::examination::Examination;
+use model::{Calendar, Floor, Line, Place};
 
-// The first point of day d at which line i is false.
-fn false_point<F: Floor, C: Calendar>(
-    floor: &F,
-    calendar: &C,
-    readings: &[u32],
-    findings: &[u32],
-    numbers: SurveyNumbers,
-    line: Line,
-    i: u32,
-    d: usize,
-) -> Option<usize>
-    requires { (F.Floor.points floor.now ≡ numbers.points) × ((C.Floor.points calendar.now ≡ numbers.days) × (d < numbers.days)) }
-    ensures { FalsePoint (model_of numbers.points (F.Floor.leads floor.now) numbers.days (C.Floor.leads calendar.now) readings.now) line (finding_in findings.now numbers.points numbers.days) i d result }
-{
-    for x in 0..numbers.points {
-        let word = finding(findings, numbers, i, d, x);
-        if word as u64 != wanted_word(floor, calendar, readings, findings, numbers, line, i, d, x) {
-            return Some(x);
-        }
+impl<F: Floor, C: Calendar> Examination<'_, F, C> {
+    // Whether the word of a place, which is on that line, is not the wanted one.
+    fn is_false(&self, line: Line, at: Place) -> bool
+        ensures { IsTrue result ↔ (TrueAt (model_for self.now.findings (F.Floor.leads self.now.floor.now) (C.Floor.leads self.now.calendar.now) self.now.readings.now) line (words_of self.now.findings) at.line at.day at.point → ⊥) }
+    {
+        self.findings.word(at) as u64 != self.wanted_word(line, at)
     }
-    None
-}
 
-// The first day and point at which line i is false.
-fn false_day<F: Floor, C: Calendar>(
-    floor: &F,
-    calendar: &C,
-    readings: &[u32],
-    findings: &[u32],
-    numbers: SurveyNumbers,
-    line: Line,
-    i: u32,
-) -> Option<(usize, usize)>
-    requires { (F.Floor.points floor.now ≡ numbers.points) × (C.Floor.points calendar.now ≡ numbers.days) }
-    ensures { FalseDay (model_of numbers.points (F.Floor.leads floor.now) numbers.days (C.Floor.leads calendar.now) readings.now) line (finding_in findings.now numbers.points numbers.days) i result }
-{
-    for d in 0..numbers.days {
-        if let Some(x) = false_point(floor, calendar, readings, findings, numbers, line, i, d) {
-            return Some((d, x));
-        }
-    }
-    None
-}
-
-// The first line that is false among the survey's, with its first day and point.
-pub(crate) fn false_line<F: Floor, C: Calendar>(
-    floor: &F,
-    calendar: &C,
-    readings: &[u32],
-    findings: &[u32],
-    numbers: SurveyNumbers,
-    lines: &[Line],
-) -> Option<Place>
-    requires { (F.Floor.points floor.now ≡ numbers.points) × ((C.Floor.points calendar.now ≡ numbers.days) × (numbers.lines ≤ length lines.now)) }
-    ensures { FalseLine (model_of numbers.points (F.Floor.leads floor.now) numbers.days (C.Floor.leads calendar.now) readings.now) lines.now (finding_in findings.now numbers.points numbers.days) numbers.lines result }
-{
-    for i in 0..numbers.lines {
-        let line = lines[i];
-        if let Some((d, x)) = false_day(
-            floor, calendar, readings, findings, numbers, line, i as u32,
-        ) {
-            return Some(Place {
+    // The first point of day d at which line i is false.
+    fn false_point(&self, line: Line, i: usize, d: usize) -> Option<usize>
+        ensures { FalsePoint (model_for self.now.findings (F.Floor.leads self.now.floor.now) (C.Floor.leads self.now.calendar.now) self.now.readings.now) line (words_of self.now.findings) i d result }
+    {
+        (0..self.findings.numbers.points).find(|x| {
+            let at = Place {
                 line: i,
                 day: d,
-                point: x,
-            });
-        }
+                point: *x,
+            };
+            self.is_false(line, at)
+        })
     }
-    None
+
+    // The first day and point at which line i is false.
+    fn false_day(&self, line: Line, i: usize) -> Option<(usize, usize)>
+        ensures { FalseDay (model_for self.now.findings (F.Floor.leads self.now.floor.now) (C.Floor.leads self.now.calendar.now) self.now.readings.now) line (words_of self.now.findings) i result }
+    {
+        (0..self.findings.numbers.days).find_map(|d| Some((d, self.false_point(line, i, d)?)))
+    }
+
+    // The first line that is false among the survey's, with its first day and point.
+    pub(crate) fn false_line(&self, lines: &[Line]) -> Option<Place>
+        requires { self.now.findings.numbers.lines ≤ length lines.now }
+        ensures { FalseLine (model_for self.now.findings (F.Floor.leads self.now.floor.now) (C.Floor.leads self.now.calendar.now) self.now.readings.now) lines.now (words_of self.now.findings) self.now.findings.numbers.lines result }
+    {
+        (0..self.findings.numbers.lines).find_map(|i| {
+            let (day, point) = self.false_day(lines[i], i)?;
+            Some(Place {
+                line: i,
+                day,
+                point,
+            })
+        })
+    }
 }

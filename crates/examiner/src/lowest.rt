@@ -1,5 +1,5 @@
 // The lowest number among the points to which a point leads, as far as they count.
-ghost use Rattle.std.specs.Prelude.{◌≡◌, ℕ, ◌<◌, Bool, ◌&&◌, if◌then◌else◌, Some, None};
+ghost use Rattle.std.specs.Prelude.{◌≡◌, ℕ, Bool, ◌&&◌, if◌then◌else◌, Some, None};
 ghost use Rattle.model.specs.Numbers.{lower_of, lowest};
 
 use model::Floor;
@@ -14,7 +14,6 @@ pub(crate) trait Candidates {
 
     // The number of point k where it counts.
     fn number_of(&self, k: usize) -> Option<u32>
-        requires { k < 4096 }
         ensures { result ≡ (if counts self.now k then Some (number self.now k) else None) };
 }
 
@@ -29,15 +28,13 @@ fn lower(a: Option<u32>, b: Option<u32>) -> Option<u32>
     }
 }
 
-// The lowest number of the points to which p leads and that count.
+// The lowest number of the points to which p leads and that count. `filter_map` and `min` were tried: the proof did not close.
 pub(crate) fn lowest<F: Floor, C: Candidates>(floor: &F, candidates: &C, p: usize) -> Option<u32>
     ensures { result ≡ lowest (F.Floor.points floor.now) (λ k. F.Floor.leads floor.now p k && C.Candidates.counts candidates.now k) (C.Candidates.number candidates.now) }
 {
     let mut best: Option<u32> = None;
-    let mut from = 0;
-    while let Some(k) = floor.onward(p, from) {
+    for k in floor.after(p) {
         best = lower(best, candidates.number_of(k));
-        from = k + 1;
     }
     best
 }

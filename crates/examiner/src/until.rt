@@ -1,30 +1,28 @@
 // The kind U: yes where right is yes, and with left yes one day further than a next day that is yes.
-ghost use Rattle.std.specs.Prelude.{◌≡◌, ◌<◌};
-ghost use Rattle.model.specs.Books.{finding_in};
+ghost use Rattle.std.specs.Prelude.{◌≡◌, ◌&&◌};
 ghost use Rattle.model.specs.Entries.{until_entry};
+ghost use Rattle.model.specs.Numbers.{lowest};
 ghost use Rattle.model.specs.Table.{says_yes, number};
+ghost use Rattle.examiner.specs.Read.{words_of, by_day};
 
+use crate::examination::Examination;
 use crate::lowest::{Candidates, lowest};
-use crate::words::{finding, is_yes};
-use model::{Calendar, SurveyNumbers};
+use crate::words::PointWords;
+use model::{Calendar, Floor, Place};
 
 // Beginnings from a day: on those days that are yes themselves, by the line's own words at the point.
 #[derive(Clone, Copy)]
 pub(crate) struct Beginnings<'a> {
-    findings: &'a [u32],
-    numbers: SurveyNumbers,
-    own: u32,
-    point: usize,
-    ghost few: { point < 4096 },
+    own: PointWords<'a>,
 }
 
 impl Candidates for Beginnings<'_> {
-    ghost counts = { λ s e. says_yes (finding_in s.findings.now s.numbers.points s.numbers.days s.own e s.point) };
+    ghost counts = { λ s e. says_yes (by_day s.own e) };
 
-    ghost number = { λ s e. number (finding_in s.findings.now s.numbers.points s.numbers.days s.own e s.point) };
+    ghost number = { λ s e. number (by_day s.own e) };
 
     fn number_of(&self, k: usize) -> Option<u32> {
-        let own = finding(self.findings, self.numbers, self.own, k, self.point);
+        let own = self.own.word(k);
         if own % 2 == 0 {
             return None;
         }
@@ -32,34 +30,31 @@ impl Candidates for Beginnings<'_> {
     }
 }
 
-// The word that the entry rule wants of line `own` on day d at point x.
-pub(crate) fn until_word<C: Calendar>(
-    calendar: &C,
-    findings: &[u32],
-    numbers: SurveyNumbers,
-    left: u32,
-    right: u32,
-    own: u32,
-    d: usize,
-    x: usize,
-) -> u64
-    requires { (C.Floor.points calendar.now ≡ numbers.days) × ((d < numbers.days) × (x < numbers.points)) }
-    ensures { result ≡ until_entry numbers.days (C.Floor.leads calendar.now) (λ e. says_yes (finding_in findings.now numbers.points numbers.days left e x)) (λ e. says_yes (finding_in findings.now numbers.points numbers.days right e x)) (λ e. finding_in findings.now numbers.points numbers.days own e x) d }
-{
-    if is_yes(findings, numbers, right, d, x) {
-        return 1;
+impl<F: Floor, C: Calendar> Examination<'_, F, C> {
+    // The lowest number of a yes day to which the entry's day leads.
+    fn lowest_beginning(&self, own: Place) -> Option<u32>
+        ensures { result ≡ lowest self.now.findings.numbers.days (λ e. C.Floor.leads self.now.calendar.now own.day e && says_yes (words_of self.now.findings own.line e own.point)) (λ e. number (words_of self.now.findings own.line e own.point)) }
+    {
+        let beginnings = Beginnings {
+            own: self.findings.point_words(own),
+        };
+        lowest(self.calendar, &beginnings, own.day)
     }
-    if !is_yes(findings, numbers, left, d, x) {
-        return 0;
-    }
-    let beginnings = Beginnings {
-        findings,
-        numbers,
-        own,
-        point: x,
-    };
-    match lowest(calendar, &beginnings, d) {
-        Some(k) => 2 * (1 + k as u64) + 1,
-        None => 0,
+
+    // The word that the entry rule wants of the entry `own`.
+    pub(crate) fn until_word(&self, left: Place, right: Place, own: Place) -> u64
+        requires { (left.day ≡ own.day) × (right.day ≡ own.day) }
+        ensures { result ≡ until_entry self.now.findings.numbers.days (C.Floor.leads self.now.calendar.now) (λ e. says_yes (words_of self.now.findings left.line e left.point)) (λ e. says_yes (words_of self.now.findings right.line e right.point)) (λ e. words_of self.now.findings own.line e own.point) own.day }
+    {
+        if self.findings.is_yes(right) {
+            return 1;
+        }
+        if !self.findings.is_yes(left) {
+            return 0;
+        }
+        match self.lowest_beginning(own) {
+            Some(k) => 2 * (1 + k as u64) + 1,
+            None => 0,
+        }
     }
 }

@@ -1,14 +1,8 @@
 -- The counts of the floor and of the calendar are those of the survey.
-use Rattle.std.proofs.Common.{length, arith}
+use Rattle.std.proofs.Common.{length}
 use Rattle.model.proofs.Refusals.{in_order}
 use Rattle.examiner.proofs.Verdicts.{accepted, false_at}
 use Rattle.examiner.proofs.examination.examine_entries.Goals as goal
-
-pub false_line-requires : goal.false_line-requires
-false_line-requires g c =
-    let k = c.args.numbers in
-    let o = in_order k.points k.days k.lines (g.F.Floor.points c.args.floor.now) (g.C.Floor.points c.args.calendar.now) (length c.args.readings.now) c.args.lines.now (length c.args.findings.now) c.requires in
-    (o.floor, (o.calendar, omega arith))
 
 pub returns-in-Some : goal.returns-in-Some
 returns-in-Some g c =
