@@ -1,5 +1,8 @@
 // What can be done with a survey once it is opened, and what is answered.
+ghost use Rattle.std.specs.Prelude.{Some};
+
 use model::{Finding, Place, Refusal, Verdict};
+use std::fmt;
 
 // Where a reading stands.
 #[derive(Clone, Copy)]
@@ -7,6 +10,19 @@ pub struct ReadingPlace {
     pub day: usize,
     pub point: usize,
     pub atom: u32,
+}
+
+impl fmt::Display for ReadingPlace {
+    ghost use Rattle.journal.specs.Printing.{reading_place_text};
+
+    ghost output = { λ place. Some (reading_place_text place) };
+
+    fn fmt<W: fmt::Write>(&self, f: &mut fmt::Formatter<W>) -> fmt::Result {
+        let day = self.day;
+        let point = self.point;
+        let atom = self.atom;
+        write!(f, "day {day} point {point} atom {atom}")
+    }
 }
 
 // One event: a call with its arguments, on the floor, the calendar and the books of the replay.

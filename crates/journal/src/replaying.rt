@@ -20,7 +20,8 @@ pub struct Replayed {
     pub stopped: Option<usize>,
 }
 
-// Performs the events in order, up to the first that does not fit.
+// Performs the events in order, up to the first that does not fit. The books are lent one by one, here and in a step: of a struct that holds
+// them no two can be lent to one call in a form that has a proof yet.
 fn perform<F: Floor, C: Calendar>(
     survey: Survey,
     floor: &F,
@@ -38,6 +39,7 @@ fn perform<F: Floor, C: Calendar>(
         match step(
             survey, floor, calendar, readings, lines, findings, strip, *event,
         ) {
+            // taken apart in two steps: a pattern that reaches into a survey within a result has no proof yet
             Ok(pair) => {
                 let (next, _answer) = pair;
                 survey = next;

@@ -1,4 +1,5 @@
-// One event on a survey, through the calls themselves.
+// One event on a survey, through the calls themselves. Each state has its own arms, also for examining, since each hands itself back. The
+// books are lent one by one (`replaying.rt` says why).
 ghost use Rattle.journal.specs.Worlds.{world_of, Performs};
 
 use crate::event::{Answer, Event};
@@ -35,10 +36,7 @@ fn step_open<F: Floor, C: Calendar>(
         }
         Event::Work => match open.work(floor, calendar, readings, lines, findings) {
             Ok(worked) => Ok((Survey::Worked(worked), Answer::Worked(Ok(())))),
-            Err(pair) => {
-                let (back, why) = pair;
-                Ok((Survey::Open(back), Answer::Worked(Err(why))))
-            }
+            Err((back, why)) => Ok((Survey::Open(back), Answer::Worked(Err(why)))),
         },
         Event::Examine => {
             let verdict = examine(open.numbers(), floor, calendar, readings, lines, findings);
