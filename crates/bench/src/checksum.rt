@@ -6,9 +6,7 @@ ghost use Rattle.bench.specs.Checksums.{checksum_of};
 pub(crate) fn checksum(words: &[u32]) -> u32
     ensures { result ≡ checksum_of words.now }
 {
-    let mut sum: u32 = 2166136261;
-    for word in words {
-        sum = sum.wrapping_mul(16777619).wrapping_add(*word);
-    }
-    sum
+    words.iter().fold(2166136261, |sum: u32, word| {
+        sum.wrapping_mul(16777619).wrapping_add(*word)
+    })
 }

@@ -25,10 +25,9 @@ pub(crate) fn random_pairs(
     links: usize,
 ) -> Result<Vec<u32>, AllocError> {
     let mut pairs = Vec::new(heap);
-    let mut generator = Generator { state: 1 };
     if points > 0 && points <= 4096 && links <= 65536 {
-        for _ in 0..2 * links {
-            pairs.push(generator.next() % points as u32)?;
+        for number in (Generator { state: 1 }).take(2 * links) {
+            pairs.push(number % points as u32)?;
         }
     }
     Ok(pairs)
@@ -45,10 +44,9 @@ fn mixed_reading(number: u32) -> u32 {
 pub(crate) fn note_readings(make: ReadingsMake, points: usize, readings: &mut [u32])
     requires { 1 ≤ points }
 {
-    let mut generator = Generator { state: 2 };
-    for k in 0..readings.len() {
-        let number = generator.next();
-        readings[k] = match make {
+    let numbers = Generator { state: 2 };
+    for (k, (word, number)) in readings.iter_mut().zip(numbers).enumerate() {
+        *word = match make {
             ReadingsMake::Mixed => mixed_reading(number),
             ReadingsMake::Long => { if k % points + 1 == points { 0 } else { 1 } }
         };

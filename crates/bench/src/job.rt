@@ -34,8 +34,7 @@ pub(crate) struct Job {
 }
 
 fn read_number(args: &mut Args) -> Option<usize> {
-    let word = args.next()?;
-    word.as_str().parse::<usize>().ok()
+    args.next()?.as_str().parse().ok()
 }
 
 fn read_floor(args: &mut Args) -> Option<FloorMake> {
@@ -73,10 +72,7 @@ pub(crate) fn read_job(mut args: Args) -> Option<Job> {
     let readings = read_readings(&mut args)?;
     let kinds = args.next()?;
     let turns = read_number(&mut args)?;
-    let timed = match args.next() {
-        Some(word) => word.as_str() == "time",
-        None => false,
-    };
+    let timed = args.next().is_some_and(|word| word.as_str() == "time");
     Some(Job {
         floor,
         calendar,

@@ -2,26 +2,22 @@
 use crate::checksum::checksum;
 use crate::inputs::{line_of, note_readings};
 use crate::job::Job;
+use crate::stop::Stop;
 use engine::Open;
 use model::{Calendar, Floor, Line, Refusal, SurveyNumbers};
 use std::io;
 use std::time::Instant;
 
-pub(crate) fn print_refusal(rt: &HostRuntime, why: Refusal) -> io::Result<()> {
-    let number = why.number();
-    println!(rt; "refused, {number}")
-}
-
 // Phrases a line for each letter; why one was refused.
 fn phrase_lines(open: &mut Open, kinds: &[u8], lines: &mut [Line]) -> Result<(), Refusal> {
-    for i in 0..kinds.len() {
-        let line = line_of(kinds[i], i);
+    for (i, letter) in kinds.iter().enumerate() {
+        let line = line_of(*letter, i);
         open.phrase(lines, line.kind, line.left, line.right)?;
     }
     Ok(())
 }
 
-// Works the survey so many times over; the answer is the shortest time in nanoseconds, or why it was refused.
+// Works the survey so many times over; the answer is the shortest time in nanoseconds.
 fn work<F: Floor, C: Calendar>(
     rt: &HostRuntime,
     turns: usize,
@@ -31,23 +27,16 @@ fn work<F: Floor, C: Calendar>(
     readings: &[u32],
     lines: &[Line],
     findings: &mut [u32],
-) -> io::Result<Result<u128, Refusal>> {
+) -> Result<u128, Stop> {
     let mut best = u128::MAX;
     let mut survey = open;
     for _ in 0..turns {
         let start = Instant::now(rt)?;
         let outcome = survey.work(floor, calendar, readings, lines, findings);
-        let took = start.elapsed(rt)?.as_nanos();
-        match outcome {
-            Ok(worked) => survey = worked.reopen(),
-            Err(pair) => {
-                let (_open, why) = pair;
-                return Ok(Err(why));
-            }
-        }
-        best = best.min(took);
+        best = best.min(start.elapsed(rt)?.as_nanos());
+        survey = outcome.map_err(|(_open, why)| why)?.reopen();
     }
-    Ok(Ok(best))
+    Ok(best)
 }
 
 // The numbers of the survey and the checksum of its findings, and the time where it is asked for.
@@ -58,10 +47,7 @@ fn print_outcome(
     best: u128,
     sum: u32,
 ) -> io::Result<()> {
-    let points = numbers.points;
-    let days = numbers.days;
-    let lines = numbers.lines;
-    println!(rt; "points {points}, days {days}, lines {lines}, findings {sum}")?;
+    println!(rt; "{numbers}, findings {sum}")?;
     if job.timed {
         println!(rt; "nanoseconds {best}")?;
     }
@@ -88,27 +74,18 @@ pub(crate) fn print_findings<F: Floor, C: Calendar>(
     job: &Job,
     floor: &F,
     calendar: &C,
-) -> io::Result<()> {
+) -> Result<(), Stop> {
     let heap = rt.alloc();
-    let blank = Line {
-        kind: 0,
-        left: 0,
-        right: 0,
-    };
-    let mut lines = [blank; 64];
+    let mut lines = [Line::default(); 64];
     let size = calendar.count() * floor.count();
     let mut readings = vec![in heap; 0u32; size]?;
-    let open = match describe(job, floor, calendar, readings.as_mut_slice(), &mut lines) {
-        Ok(open) => open,
-        Err(why) => return print_refusal(rt, why),
-    };
+    let open = describe(job, floor, calendar, readings.as_mut_slice(), &mut lines)?;
     let numbers = open.numbers();
     let mut findings = vec![in heap; 0u32; numbers.lines * size]?;
     let book = findings.as_mut_slice();
-    match work(
+    let best = work(
         rt, job.turns, open, floor, calendar, &readings, &lines, book,
-    )? {
-        Ok(best) => print_outcome(rt, job, numbers, best, checksum(&findings)),
-        Err(why) => print_refusal(rt, why),
-    }
+    )?;
+    print_outcome(rt, job, numbers, best, checksum(&findings))?;
+    Ok(())
 }

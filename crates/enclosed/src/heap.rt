@@ -25,13 +25,10 @@ fn survey(
 ) -> Result<(Worked, usize), Refusal> {
     let mut open = Open::open(grid, calendar, readings, lines)?;
     let line = describe(&mut open, readings, lines)?;
-    match open.work(grid, calendar, readings, lines, findings) {
-        Ok(worked) => Ok((worked, line)),
-        Err(pair) => {
-            let (_open, why) = pair;
-            Err(why)
-        }
-    }
+    let worked = open
+        .work(grid, calendar, readings, lines, findings)
+        .map_err(|(_open, why)| why)?;
+    Ok((worked, line))
 }
 
 // What is found at each of the five points.
@@ -64,16 +61,10 @@ fn print_survey(rt: &HostRuntime, grid: &Grid, calendar: &ChainCalendar) -> io::
     let mut readings = [0; 8192];
     let mut findings = [0; 8192];
     let mut strip = [0; 8192];
-    let blank = Line {
-        kind: 0,
-        left: 0,
-        right: 0,
-    };
-    let mut lines = [blank; 64];
-    let Ok(pair) = survey(grid, calendar, &mut readings, &mut lines, &mut findings) else {
+    let mut lines = [Line::default(); 64];
+    let Ok((worked, line)) = survey(grid, calendar, &mut readings, &mut lines, &mut findings) else {
         return Ok(());
     };
-    let (worked, line) = pair;
     print_answers(rt, &worked, &findings, line)?;
     if let Ok(count) = worked.show(grid, calendar, &lines, &findings, line, 0, 1, &mut strip) {
         print!(rt; "  way out of point 1:")?;

@@ -10,10 +10,7 @@ fn print_outcome<T: Drop>(
 ) -> io::Result<()> {
     match outcome {
         Ok(_) => println!(rt; "  {name}: made"),
-        Err(why) => {
-            let number = why.number();
-            println!(rt; "  {name}: refused, {number}")
-        }
+        Err(why) => println!(rt; "  {name}: {why}"),
     }
 }
 

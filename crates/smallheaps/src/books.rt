@@ -3,7 +3,7 @@ ghost use Rattle.std.specs.Prelude.{◌≡◌, replicate};
 
 use model::Line;
 
-// One set of books.
+// One set of books: arrays, by a rule of the project.
 #[derive(Drop)]
 pub(crate) struct Books {
     pub readings: [u32; 8192],
@@ -18,14 +18,9 @@ impl Books {
         ensures lines { result.lines ≡ replicate 64 (record { kind = 0; left = 0; right = 0 }) }
         ensures findings { result.findings ≡ replicate 8192 0 }
     {
-        let none = Line {
-            kind: 0,
-            left: 0,
-            right: 0,
-        };
         Books {
             readings: [0; 8192],
-            lines: [none; 64],
+            lines: [Line::default(); 64],
             findings: [0; 8192],
         }
     }

@@ -1,19 +1,18 @@
 // One heap from its opening to its examination, on any floor and calendar.
 use crate::books::Books;
-use crate::calls::{
-    ask_entry, examine_book, open_survey, phrase_line, record_reading, work_survey,
-};
+use crate::calls::{ask_entry, phrase_line, record_reading};
 use crate::say::say_row;
+use crate::site::Site;
 use engine::{Open, Worked};
-use journal::Survey;
-use model::{Calendar, Floor, Line};
+use journal::{ReadingPlace, Survey};
+use model::{Calendar, Floor, Line, Place};
 use std::io;
 
-// What is given of a heap: the day, point and atom of each reading that is yes, and its lines.
+// What is given of a heap: the place of each reading that is yes, and its lines.
 #[derive(Clone, Copy)]
 pub(crate) struct Heap<'a> {
     pub name: &'a str,
-    pub readings: &'a [(usize, usize, u32)],
+    pub readings: &'a [ReadingPlace],
     pub lines: &'a [Line],
 }
 
@@ -41,10 +40,13 @@ fn phrase_lines(
 // Asks for every entry of a line.
 fn ask_line(rt: &HostRuntime, worked: &Worked, books: &Books, line: usize) -> io::Result<()> {
     let numbers = worked.numbers();
-    for place in 0..numbers.days * numbers.points {
-        let day = place / numbers.points;
-        let point = place % numbers.points;
-        ask_entry(rt, worked, &books.findings, (line, day, point))?;
+    for place in 0..numbers.size() {
+        let at = Place {
+            line,
+            day: place / numbers.points,
+            point: place % numbers.points,
+        };
+        ask_entry(rt, worked, &books.findings, at)?;
     }
     Ok(())
 }
@@ -57,7 +59,7 @@ fn print_findings(
     first: usize,
 ) -> io::Result<()> {
     let numbers = worked.numbers();
-    let size = numbers.days * numbers.points;
+    let size = numbers.size();
     for line in first..numbers.lines {
         ask_line(rt, worked, books, line)?;
         print!(rt; "  words of line {line}:")?;
@@ -68,36 +70,31 @@ fn print_findings(
 
 // Works a survey, prints its findings from line `first` on and has its findings book examined.
 pub(crate) fn finish<F: Floor, C: Calendar>(
-    rt: &HostRuntime,
+    site: &Site<'_, F, C>,
     open: Open,
-    floor: &F,
-    calendar: &C,
     books: &mut Books,
     first: usize,
 ) -> io::Result<Survey> {
-    let survey = work_survey(rt, open, floor, calendar, books)?;
+    let survey = site.work_survey(open, books)?;
     if let Survey::Worked(worked) = &survey {
-        print_findings(rt, worked, books, first)?;
-        let numbers = worked.numbers();
-        examine_book(rt, numbers, floor, calendar, books, "its", &books.findings)?;
+        print_findings(site.rt, worked, books, first)?;
+        site.examine_book(worked.numbers(), books, "its", &books.findings)?;
     }
     Ok(survey)
 }
 
 // Opens a survey of the heap, gives it what is known of it, and works it. The lines above its two lowest are printed.
 pub(crate) fn run_heap<F: Floor, C: Calendar>(
-    rt: &HostRuntime,
+    site: &Site<'_, F, C>,
     heap: Heap<'_>,
-    floor: &F,
-    calendar: &C,
     books: &mut Books,
 ) -> io::Result<Option<Worked>> {
-    println!(rt; "{}", heap.name)?;
-    let Some(mut open) = open_survey(rt, floor, calendar, books)? else {
+    println!(site.rt; "{}", heap.name)?;
+    let Some(mut open) = site.open_survey(books)? else {
         return Ok(None);
     };
-    give(rt, &mut open, books, heap)?;
-    match finish(rt, open, floor, calendar, books, 2)? {
+    give(site.rt, &mut open, books, heap)?;
+    match finish(site, open, books, 2)? {
         Survey::Worked(worked) => Ok(Some(worked)),
         Survey::Open(_) => Ok(None),
     }

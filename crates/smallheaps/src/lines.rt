@@ -1,8 +1,9 @@
-// The lines that the heaps are asked by. W is atom 0, D is atom 1.
+// The lines that the heaps are asked by, and places on day 0, short to write. W is atom 0, D is atom 1.
 ghost use Rattle.std.specs.Prelude.{◌≡◌};
 ghost use Rattle.model.specs.Heaps.{floor_lines, calendar_lines};
 
-use model::Line;
+use journal::ReadingPlace;
+use model::{Line, Place};
 
 // A line, short to write.
 pub(crate) fn line(kind: u8, left: u32, right: u32) -> Line
@@ -34,4 +35,26 @@ pub(crate) fn calendar_lines() -> [Line; 5]
         line(b'F', 1, 0),
         line(b'X', 1, 0),
     ]
+}
+
+// An atom at a point, on day 0.
+pub(crate) fn spot(point: usize, atom: u32) -> ReadingPlace
+    ensures { result ≡ record { day = 0; point = point; atom = atom } }
+{
+    ReadingPlace {
+        day: 0,
+        point,
+        atom,
+    }
+}
+
+// A line's entry at a point, on day 0.
+pub(crate) fn entry(line: usize, point: usize) -> Place
+    ensures { result ≡ record { line = line; day = 0; point = point } }
+{
+    Place {
+        line,
+        day: 0,
+        point,
+    }
 }

@@ -1,33 +1,10 @@
 // Lists of events, replayed.
-ghost use Rattle.std.specs.Prelude.{◌≡◌};
-
 use crate::books::Books;
-use crate::say::{say_numbers, say_refused, say_row};
-use journal::{Event, ReadingPlace, Replayed, Survey, replay};
-use model::{ChainCalendar, Grid, Place};
+use crate::lines::{entry, spot};
+use crate::say::say_row;
+use journal::{Event, Replayed, Survey, replay};
+use model::{ChainCalendar, Grid};
 use std::io;
-
-// An atom at a point, on day 0.
-fn spot(point: usize, atom: u32) -> ReadingPlace
-    ensures { result ≡ record { day = 0; point = point; atom = atom } }
-{
-    ReadingPlace {
-        day: 0,
-        point,
-        atom,
-    }
-}
-
-// A line's entry at a point, on day 0.
-fn entry(line: usize, point: usize) -> Place
-    ensures { result ≡ record { line = line; day = 0; point = point } }
-{
-    Place {
-        line,
-        day: 0,
-        point,
-    }
-}
 
 // Where a replay stopped, if it did, and the survey that it came to.
 fn print_replayed(rt: &HostRuntime, replayed: &Replayed) -> io::Result<()> {
@@ -36,14 +13,8 @@ fn print_replayed(rt: &HostRuntime, replayed: &Replayed) -> io::Result<()> {
         None => println!(rt; "  every event fits")?,
     }
     match &replayed.survey {
-        Survey::Open(open) => {
-            print!(rt; "  the survey is open: ")?;
-            say_numbers(rt, open.numbers())
-        }
-        Survey::Worked(worked) => {
-            print!(rt; "  the survey is worked: ")?;
-            say_numbers(rt, worked.numbers())
-        }
+        Survey::Open(open) => println!(rt; "  the survey is open: {}", open.numbers()),
+        Survey::Worked(worked) => println!(rt; "  the survey is worked: {}", worked.numbers()),
     }
 }
 
@@ -66,7 +37,7 @@ fn print_replay(
         events,
     ) {
         Ok(replayed) => print_replayed(rt, &replayed),
-        Err(why) => say_refused(rt, why),
+        Err(why) => println!(rt; "{why}"),
     }
 }
 

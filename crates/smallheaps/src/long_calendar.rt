@@ -24,7 +24,7 @@ impl Floor for LongCalendar {
     }
 
     fn onward(&self, p: usize, q: usize) -> Option<usize> {
-        if p < 65 && q <= p { Some(p) } else { None }
+        (p < 65 && q <= p).then_some(p)
     }
 
     // A day is led to by itself alone.

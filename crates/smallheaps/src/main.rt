@@ -12,6 +12,7 @@ mod long_calendar;
 mod refusals;
 mod say;
 mod second_heap;
+mod site;
 
 use books::Books;
 use heaps::{print_dated, print_linked};
