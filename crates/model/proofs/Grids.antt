@@ -3,7 +3,7 @@ use Rattle.std.proofs.Common.{◌≡◌, ℕ, ◌+◌, ◌*◌, ◌/◌, ◌%◌
 use Rattle.std.proofs.lemmas.Nat.{div-mul-add, mod-mul-add, mul-add-lt}
 use Rattle.std.proofs.lemmas.Bool.{lt-ltb}
 use Rattle.std.proofs.lemmas.Bool.Decides.{nat_tests, same_from_decides, Decides-eqb, Decides-and, Decides-like}
-use Rattle.model.specs.Grids.{east, south, ReadsByRowAndColumn}
+use Rattle.model.specs.Grids.{beside, east, south, ReadsByRowAndColumn}
 
 -- a place tells its row and its column
 pub same_place : (cols r c s d : ℕ) → c < cols → d < cols → r * cols + c ≡ s * cols + d → (r ≡ s) × (c ≡ d)
@@ -34,3 +34,7 @@ reads rows cols r c s d (hr, hc) (hs, hd) =
     let q : s * cols + d < rows * cols = omega (arith, mul-add-lt s cols d rows hs hd, mul_comm rows cols) in
     rw (lt-ltb _ _ p, lt-ltb _ _ q, south_is cols r c s d hc hd, south_is cols s d r c hd hc, east_is cols r c s d hc hd, east_is cols s d r c hd hc)
     (grind (arith, nat_tests))
+
+-- neighbours lead to one another
+pub both_lead : (rows cols p q : ℕ) → beside rows cols p q ≡ beside rows cols q p
+both_lead rows cols p q = grind (arith, nat_tests)

@@ -25,6 +25,13 @@ pub trait Floor {
     fn inward(&self, p: usize, q: usize) -> Option<usize>
         ensures { Least (turned (leads self.now) p) q (points self.now) result };
 
+    // What `onward` answers. The hint may be any number, 0 at first; a floor may leave in it what helps it with the next question about p.
+    fn onward_near(&self, p: usize, q: usize, _hint: &mut usize) -> Option<usize>
+        ensures { Least (leads self.now p) q (points self.now) result }
+    {
+        self.onward(p, q)
+    }
+
     // What `inward` answers. The hint may be any number, 0 at first; a floor may leave in it what helps it with the next question about p.
     fn inward_near(&self, p: usize, q: usize, _hint: &mut usize) -> Option<usize>
         ensures { Least (turned (leads self.now) p) q (points self.now) result }
@@ -42,6 +49,7 @@ pub trait Floor {
             floor: self,
             point: p,
             from: 0,
+            hint: 0,
         }
     }
 

@@ -67,13 +67,17 @@ impl Floor for LinkFloor {
         self.out.count
     }
 
-    // Here and in `inward`: one call on rows of their own; a flag would be longer.
+    // Here, in `inward` and in both with a hint: one call on rows of their own; a flag would be longer.
     fn onward(&self, p: usize, q: usize) -> Option<usize> {
         self.out.next(p, q)
     }
 
     fn inward(&self, p: usize, q: usize) -> Option<usize> {
         self.into.next(p, q)
+    }
+
+    fn onward_near(&self, p: usize, q: usize, hint: &mut usize) -> Option<usize> {
+        self.out.next_near(p, q, hint)
     }
 
     fn inward_near(&self, p: usize, q: usize, hint: &mut usize) -> Option<usize> {
