@@ -118,12 +118,12 @@ module _ (points days count n : ℕ) (leads : ℕ → ℕ → Bool) (m : ℕ) (a
         → book_refusal points days count n m lines findings i d x (length old) (book_trail points leads days after lines findings i d x) ≡ where_so (not b) FalseEntry
     by_words b e = last ∙ ap₂ (λ (o : Option Refusal) (t : Bool). or_else o (where_so (not t) FalseEntry)) none e
 
-    shown_so : (new : List ℕ) (k : ℕ) → Put (book_trail points leads days after lines findings i d x) old new (Some k) → Shown points days count n leads m after lines findings i d x old new (Ok k)
+    pub shown_so : (new : List ℕ) (k : ℕ) → Put (book_trail points leads days after lines findings i d x) old new (Some k) → Shown points days count n leads m after lines findings i d x old new (Ok k)
     shown_so new k put =
         let c = counted k (book_trail points leads days after lines findings i d x) put.count in
         by_refusal None new (Ok k) (by_words true c.0) (ap Ok c.1) put.strip
 
-    fails_so : (new : List ℕ) → Put (book_trail points leads days after lines findings i d x) old new None → Shown points days count n leads m after lines findings i d x old new (Err FalseEntry)
+    pub fails_so : (new : List ℕ) → Put (book_trail points leads days after lines findings i d x) old new None → Shown points days count n leads m after lines findings i d x old new (Err FalseEntry)
     fails_so new put =
         let c = nothing (book_trail points leads days after lines findings i d x) put.count in
         by_refusal (Some FalseEntry) new (Err FalseEntry) (by_words false (ap is_some c)) refl (put.strip ∙ ap (λ (o : Option (List ℕ)). written_on (unwrap_or o []) old) c)

@@ -11,6 +11,10 @@ step_by leave leads enter x y = leave x && (leads x y && enter y)
 abbrev pub at : List ℕ → ℕ → ℕ
 at xs i = slice_index xs i
 
+-- from place n on the second list is as the first
+abbrev pub SameFrom : ℕ → List ℕ → List ℕ → Type 0
+SameFrom n xs ys = (k : ℕ) → n ≤ k → slice_index ys k ≡ slice_index xs k
+
 -- place i holds v, and every other place what it held
 abbrev pub PutAt : ℕ → ℕ → List ℕ → List ℕ → Type 0
 PutAt i v xs ys = (slice_index ys i ≡ v) × ((k : ℕ) → k ≢ i → slice_index ys k ≡ slice_index xs k)

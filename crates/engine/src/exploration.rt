@@ -3,7 +3,7 @@ ghost use Rattle.std.specs.Prelude.{◌≡◌, ℕ, ◌+◌, ◌<◌, ◌≤◌,
 ghost use Rattle.std.specs.Option.{unwrap_or};
 ghost use Rattle.model.specs.Numbers.{tally};
 ghost use Rattle.model.specs.Table.{rank};
-ghost use Rattle.engine.specs.Exploring.{step_by, at, PutAt, Explored};
+ghost use Rattle.engine.specs.Exploring.{step_by, at, SameFrom, PutAt, Explored};
 
 use model::Floor;
 
@@ -70,7 +70,8 @@ impl Room {
 fn reach_goals<R: Rules>(rules: &R, room: &mut Room, count: usize)
     requires few { count ≤ 4096 }
     requires none { ((x : ℕ) → x < count → slice_index room.old.steps x ≡ count) × (room.old.reached ≡ 0) }
-    ensures { (step : ℕ → ℕ → Bool) → Explored count step (R.Rules.goal rules.now) count (at room.new.steps) (at room.new.queue) 0 room.new.reached }
+    ensures goals { (step : ℕ → ℕ → Bool) → Explored count step (R.Rules.goal rules.now) count (at room.new.steps) (at room.new.queue) 0 room.new.reached }
+    ensures rest { SameFrom count room.old.steps room.new.steps }
 {
     for x in 0..count {
         if rules.is_goal(x) {
@@ -83,7 +84,8 @@ fn reach_goals<R: Rules>(rules: &R, room: &mut Room, count: usize)
 fn reach_before<F: Floor, R: Rules>(floor: &F, rules: &R, room: &mut Room, head: usize)
     requires head { head < room.old.reached }
     requires state { Explored (F.Floor.points floor.now) (step_by (R.Rules.leave rules.now) (F.Floor.leads floor.now) (R.Rules.enter rules.now)) (R.Rules.goal rules.now) (F.Floor.points floor.now) (at room.old.steps) (at room.old.queue) head room.old.reached }
-    ensures { Explored (F.Floor.points floor.now) (step_by (R.Rules.leave rules.now) (F.Floor.leads floor.now) (R.Rules.enter rules.now)) (R.Rules.goal rules.now) (F.Floor.points floor.now) (at room.new.steps) (at room.new.queue) (head + 1) room.new.reached }
+    ensures state { Explored (F.Floor.points floor.now) (step_by (R.Rules.leave rules.now) (F.Floor.leads floor.now) (R.Rules.enter rules.now)) (R.Rules.goal rules.now) (F.Floor.points floor.now) (at room.new.steps) (at room.new.queue) (head + 1) room.new.reached }
+    ensures rest { SameFrom (F.Floor.points floor.now) room.old.steps room.new.steps }
 {
     let count = floor.count();
     let y = room.queue[head] as usize;
@@ -109,7 +111,8 @@ fn most_reached<R: Rules>(rules: &R, count: usize) -> usize
 // Takes the queue to its end, or until all points that can be reached are: each point that comes to its head brings in those before it.
 fn follow<F: Floor, R: Rules>(floor: &F, rules: &R, room: &mut Room)
     requires { Explored (F.Floor.points floor.now) (step_by (R.Rules.leave rules.now) (F.Floor.leads floor.now) (R.Rules.enter rules.now)) (R.Rules.goal rules.now) (F.Floor.points floor.now) (at room.old.steps) (at room.old.queue) 0 room.old.reached }
-    ensures { (x : ℕ) → x < F.Floor.points floor.now → slice_index room.new.steps x ≡ unwrap_or (rank (F.Floor.points floor.now) (step_by (R.Rules.leave rules.now) (F.Floor.leads floor.now) (R.Rules.enter rules.now)) (R.Rules.goal rules.now) x) (F.Floor.points floor.now) }
+    ensures shortest { (x : ℕ) → x < F.Floor.points floor.now → slice_index room.new.steps x ≡ unwrap_or (rank (F.Floor.points floor.now) (step_by (R.Rules.leave rules.now) (F.Floor.leads floor.now) (R.Rules.enter rules.now)) (R.Rules.goal rules.now) x) (F.Floor.points floor.now) }
+    ensures rest { SameFrom (F.Floor.points floor.now) room.old.steps room.new.steps }
 {
     let most = most_reached(rules, floor.count());
     let mut head = 0;
@@ -122,7 +125,8 @@ fn follow<F: Floor, R: Rules>(floor: &F, rules: &R, room: &mut Room)
 
 // Writes for each point the fewest steps by which a goal is reached from it, or the number of points where none is reached.
 pub(crate) fn explore<F: Floor, R: Rules>(floor: &F, rules: &R, room: &mut Room)
-    ensures { (x : ℕ) → x < F.Floor.points floor.now → slice_index room.new.steps x ≡ unwrap_or (rank (F.Floor.points floor.now) (step_by (R.Rules.leave rules.now) (F.Floor.leads floor.now) (R.Rules.enter rules.now)) (R.Rules.goal rules.now) x) (F.Floor.points floor.now) }
+    ensures shortest { (x : ℕ) → x < F.Floor.points floor.now → slice_index room.new.steps x ≡ unwrap_or (rank (F.Floor.points floor.now) (step_by (R.Rules.leave rules.now) (F.Floor.leads floor.now) (R.Rules.enter rules.now)) (R.Rules.goal rules.now) x) (F.Floor.points floor.now) }
+    ensures rest { SameFrom (F.Floor.points floor.now) room.old.steps room.new.steps }
 {
     let count = floor.count();
     room.steps[..count].fill(count as u16);

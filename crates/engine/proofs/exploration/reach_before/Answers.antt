@@ -43,6 +43,7 @@ loop-x-preserved g c =
       rw c.in-Some.ensures.steps.3
           (enter_skip n step (g.R.Rules.goal rules) (at steps) (at l.room.queue) c.args.head l.room.reached y _ l.x-iterator.from l.invariant.2 x next.1
           (λ k h b. not_led leave leads enter k y (next.3 k h b)) old),
+      l.invariant.3,
     )
 
 pub loop-x-preserved-then-may_leave : goal.loop-x-preserved-then-may_leave
@@ -66,6 +67,7 @@ loop-x-preserved-then-may_leave g c =
           (λ k h b. not_led leave leads enter k y (next.3 k h b)) (c.if-room-x.true ∙ c.count-count.ensures)
           (a_step leave leads enter x y (sym c.if-may_leave.ensures) next.2 (sym c.if-may_enter.ensures))
           (at c.reach.new.self.steps) (at c.reach.new.self.queue) noted.0 noted.1 queued.0 queued.1),
+      λ k h. noted.1 k (omega (arith, next.1)) ∙ l.invariant.3 k h,
     )
 
 pub returns-in-None : goal.returns-in-None
@@ -78,5 +80,8 @@ returns-in-None g c =
     let enter = g.R.Rules.enter rules in
     let y = get_or c.args.room.now.queue c.args.head 0 in
     let none = told l.x-iterator.from None l.invariant.0 l.invariant.1 c.in-None.ensures.steps.2 in
-    enter_end (g.F.Floor.points floor) (step_by leave leads enter) (g.R.Rules.goal rules) (at l.room.steps) (at l.room.queue) c.args.head l.room.reached y _ l.x-iterator.from l.invariant.2
-    (λ x h b. not_led leave leads enter x y (none x h b))
+    record {
+      state = enter_end (g.F.Floor.points floor) (step_by leave leads enter) (g.R.Rules.goal rules) (at l.room.steps) (at l.room.queue) c.args.head l.room.reached y _ l.x-iterator.from l.invariant.2
+          (λ x h b. not_led leave leads enter x y (none x h b));
+      rest = l.invariant.3;
+    }

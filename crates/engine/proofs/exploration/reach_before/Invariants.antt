@@ -1,6 +1,6 @@
 use Rattle.std.proofs.Common.{◌≡◌}
 use Rattle.model.specs.Relations.{turned}
-use Rattle.engine.specs.Exploring.{step_by, at}
+use Rattle.engine.specs.Exploring.{step_by, at, SameFrom}
 use Rattle.engine.proofs.Exploring.{Entering}
 use Rattle.engine.proofs.exploration.reach_before.Given as goal
 
@@ -11,3 +11,4 @@ invariant-loop-x g l =
     × (turned (g.F.Floor.leads l.x-iterator.floor.now) l.x-iterator.point ≡ turned (g.F.Floor.leads l.floor) l.y)
     × Entering (g.F.Floor.points l.floor) (step_by (g.R.Rules.leave l.rules) (g.F.Floor.leads l.floor) (g.R.Rules.enter l.rules)) (g.R.Rules.goal l.rules)
     (at l.room.steps) (at l.room.queue) l.head l.room.reached l.y l.value l.x-iterator.from
+    × SameFrom (g.F.Floor.points l.floor) l.initial.room.steps l.room.steps

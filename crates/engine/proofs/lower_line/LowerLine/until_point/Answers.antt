@@ -27,8 +27,8 @@ returns g c =
     let same_right : (e : ℕ) → e < m → bit r e ≡ right e = λ e h. (rw c.requires.same.0 at c.answers-right.ensures) e (omega arith) in
     let words : (d : ℕ) → d < m → day_word m (get_or steps d 0) ≡ until_word m after left right d =
     ⊎_elim
-    (λ (none : r < 1). let z : r ≡ 0 = omega arith in days_without m after left right (bit l) (bit r) (λ d. get_or steps d 0) (λ e h. ap (λ w. bit w e) z ∙ bit_none e) same_right c.explore.ensures)
-    (λ (some : 1 ≤ r). days_are m after left right (bit l) (bit r) (λ d. get_or steps d 0) (λ e h. c.answers_until-left.ensures some e (omega arith)) same_right c.explore.ensures)
+    (λ (none : r < 1). let z : r ≡ 0 = omega arith in days_without m after left right (bit l) (bit r) (λ d. get_or steps d 0) (λ e h. ap (λ w. bit w e) z ∙ bit_none e) same_right c.explore.ensures.shortest)
+    (λ (some : 1 ≤ r). days_are m after left right (bit l) (bit r) (λ d. get_or steps d 0) (λ e h. c.answers_until-left.ensures some e (omega arith)) same_right c.explore.ensures.shortest)
     (cases_lt r 1) in
     column_same n m x (λ d. day_word m (get_or days d 0)) (until_word m after left right) c.args.line.now c.write_column.new.line
     (λ d h. ap (day_word m) (get_or-take c.count-days.result steps d 0 (omega arith)) ∙ words d h)
