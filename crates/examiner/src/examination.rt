@@ -23,11 +23,11 @@ impl<F: Floor, C: Calendar> Examination<'_, F, C> {
     pub(crate) fn reading(&self, atom: u32, at: Place) -> bool
         ensures { result ≡ reading_in self.now.readings.now self.now.findings.numbers.points at.day at.point atom }
     {
-        let k = at
+        let start = at
             .day
             .saturating_mul(self.findings.numbers.points)
-            .saturating_add(at.point);
-        has_bit(word_at(self.readings, k), atom)
+            .min(self.readings.len());
+        has_bit(word_at(&self.readings[start..], at.point), atom)
     }
 }
 

@@ -11,7 +11,7 @@ impl<F: Floor, C: Calendar> Examination<'_, F, C> {
     fn is_false(&self, line: Line, at: Place) -> bool
         ensures { IsTrue result ↔ (TrueAt (model_for self.now.findings (F.Floor.leads self.now.floor.now) (C.Floor.leads self.now.calendar.now) self.now.readings.now) line (words_of self.now.findings) at.line at.day at.point → ⊥) }
     {
-        self.findings.word(at) as u64 != self.wanted_word(line, at)
+        self.wanted_word(line, at) != self.findings.word(at) as u64
     }
 
     // The first point of day d at which line i is false.
