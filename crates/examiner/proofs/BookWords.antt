@@ -20,6 +20,12 @@ capped_product top b n h =
     ⊎_elim (λ (l : b < top). let e : min b top ≡ b = omega arith in rw e)
     (λ (l : top ≤ b). let e : min b top ≡ top = omega arith in rw e (omega arith)) (cases_lt b top)
 
+-- where the reckoning of a place stopped, the book has ended
+pub capped_place : (words : List ℕ) (top k y : ℕ) → length words ≤ top → slice_index words (min k top + y) ≡ slice_index words (k + y)
+capped_place words top k y few =
+    ⊎_elim (λ (l : k < top). let e : min k top ≡ k = omega arith in ap (λ (i : ℕ). slice_index words (i + y)) e)
+    (λ (l : top ≤ k). get_or_past words (min k top + y) 0 (omega arith) ∙ sym (get_or_past words (k + y) 0 (omega arith))) (cases_lt k top)
+
 -- the words from such a place on are the words from the place on: where the reckoning stopped, the book has ended
 pub words_from : (words : List ℕ) (top k y : ℕ) → length words ≤ top
     → slice_index (take (length words - min (min k top) (length words)) (drop (min (min k top) (length words)) words)) y ≡ slice_index words (k + y)

@@ -4,7 +4,7 @@ ghost use Rattle.model.specs.Books.{model_of, reading_in};
 ghost use Rattle.model.specs.Examining.{Examined};
 ghost use Rattle.model.specs.Refusals.{whole_refusal};
 
-use crate::words::{Findings, has_bit, word_at};
+use crate::words::{Findings, has_bit, word_at, words_from};
 use model::{Calendar, Floor, Line, Place, SurveyNumbers, Verdict, check_whole};
 
 // All that an examination reads. Floor and calendar have the counts of the survey by which the findings book is read.
@@ -23,11 +23,8 @@ impl<F: Floor, C: Calendar> Examination<'_, F, C> {
     pub(crate) fn reading(&self, atom: u32, at: Place) -> bool
         ensures { result ≡ reading_in self.now.readings.now self.now.findings.numbers.points at.day at.point atom }
     {
-        let start = at
-            .day
-            .saturating_mul(self.findings.numbers.points)
-            .min(self.readings.len());
-        has_bit(word_at(&self.readings[start..], at.point), atom)
+        let before = at.day.saturating_mul(self.findings.numbers.points);
+        has_bit(word_at(words_from(self.readings, before), at.point), atom)
     }
 }
 

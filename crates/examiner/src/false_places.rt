@@ -7,7 +7,8 @@ use crate::examination::Examination;
 use model::{Calendar, Floor, Line, Place};
 
 impl<F: Floor, C: Calendar> Examination<'_, F, C> {
-    // Whether the word of a place, which is on that line, is not the wanted one.
+    // Whether the word of a place, which is on that line, is not the wanted one. That is known first, so that the place's own word need not be
+    // kept meanwhile.
     fn is_false(&self, line: Line, at: Place) -> bool
         ensures { IsTrue result ↔ (TrueAt (model_for self.now.findings (F.Floor.leads self.now.floor.now) (C.Floor.leads self.now.calendar.now) self.now.readings.now) line (words_of self.now.findings) at.line at.day at.point → ⊥) }
     {

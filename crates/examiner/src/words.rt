@@ -1,5 +1,5 @@
 // Reading the books: a word by its number, a bit of a word, and the words of a findings book by their places.
-ghost use Rattle.std.specs.Prelude.{◌≡◌, slice_index};
+ghost use Rattle.std.specs.Prelude.{◌≡◌, ◌+◌, slice_index};
 ghost use Rattle.model.specs.Masks.{bit};
 ghost use Rattle.model.specs.Table.{says_yes};
 
@@ -10,6 +10,13 @@ pub(crate) fn word_at(words: &[u32], k: usize) -> u32
     ensures { result ≡ slice_index words.now k }
 {
     words.get(k).copied().unwrap_or(0)
+}
+
+// The words from number k on; none past the end.
+pub(crate) fn words_from(words: &[u32], k: usize) -> &[u32]
+    ensures { slice_index result.now ≡ (λ y. slice_index words.now (k + y)) }
+{
+    &words[k.min(words.len())..]
 }
 
 // Whether bit a of the word is set; no word has a bit from the 32nd on.
@@ -44,10 +51,7 @@ impl Findings<'_> {
             .line
             .saturating_mul(self.numbers.days)
             .saturating_add(at.day);
-        let start = day
-            .saturating_mul(self.numbers.points)
-            .min(self.words.len());
-        &self.words[start..]
+        words_from(self.words, day.saturating_mul(self.numbers.points))
     }
 
     // The word of a place; 0 past the end of the book.
@@ -68,10 +72,8 @@ impl Findings<'_> {
     pub(crate) fn point_words(&self, at: Place) -> PointWords<'_>
         ensures { by_day result ≡ (λ e. words_of self.now at.line e at.point) }
     {
-        let line = self.day_words(Place { day: 0, ..at });
-        let start = at.point.min(line.len());
         PointWords {
-            words: &line[start..],
+            words: words_from(self.day_words(Place { day: 0, ..at }), at.point),
             points: self.numbers.points,
         }
     }

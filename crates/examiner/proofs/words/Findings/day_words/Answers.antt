@@ -1,7 +1,7 @@
 -- Where the reckoning stops, the book has ended.
-use Rattle.std.proofs.Common.{◌≡◌, ◌+◌, ◌-◌, ◌*◌, ◌^◌, ◌≤◌, min, length, slice_index, take, drop, ◌∙◌, ap, rules, arith}
+use Rattle.std.proofs.Common.{◌≡◌, ◌+◌, ◌-◌, ◌*◌, ◌^◌, ◌≤◌, min, length, slice_index, ◌∙◌, ap, rules, arith}
 use mathlib.Core.Path.{fun_ext}
-use Rattle.examiner.proofs.BookWords.{capped_product, words_from}
+use Rattle.examiner.proofs.BookWords.{capped_product, capped_place}
 use Rattle.examiner.proofs.words.Findings.day_words.Goals as goal
 
 pub returns : goal.returns
@@ -14,5 +14,4 @@ returns c =
     let few : length words ≤ top = search rules in
     let r : c.saturating_add-day.result ≡ min row top = omega (arith, c.saturating_mul.ensures) in
     let q : c.saturating_mul-2.result ≡ min (row * n) top = c.saturating_mul-2.ensures ∙ ap (λ b. min (b * n) top) r ∙ capped_product top row n s.numbers.somepoints in
-    let k : c.min-start.result ≡ min (min (row * n) top) (length words) = c.min-start.ensures ∙ ap (λ b. min b (length words)) q in
-    fun_ext (λ y. ap (λ b. slice_index (take (length words - b) (drop b words)) y) k ∙ words_from words top (row * n) y few)
+    c.words_from.ensures ∙ fun_ext (λ y. ap (λ b. slice_index words (b + y)) q ∙ capped_place words top (row * n) y few)
